@@ -1,0 +1,192 @@
+//! What a decoder gives.
+
+use crate::tests::traces::{EV_SCHEMA, HEADER, ONE_EVENT, written};
+use dial9_trace_format::decoder::{DecodeErrorKind, DecodedFrame, Decoder};
+use dial9_trace_format::schema::WireTypeId;
+use dial9_trace_format::types::{FieldType, FieldValue};
+use std::process::Abort;
+use std::test::Fail;
+
+/// The frame is the schema `Ev`.
+fn check_ev(rt: &impl Abort, frame: &DecodedFrame) {
+    match frame {
+        DecodedFrame::Schema(entry) => {
+            assert_eq!(rt; entry.name(), "Ev");
+            assert_eq!(rt; entry.fields().len(), 1);
+            assert_eq!(rt; entry.fields()[0].name(), "v");
+            assert_eq!(rt; entry.fields()[0].field_type(), FieldType::Varint);
+        }
+        DecodedFrame::Event { .. } => assert!(rt; false, "an event"),
+    }
+}
+
+/// The frame is an event of wire id 256 with this time and this number.
+fn check_event(rt: &impl Abort, frame: &DecodedFrame, time: u64, number: u64) {
+    match frame {
+        DecodedFrame::Schema(_) => assert!(rt; false, "a schema"),
+        DecodedFrame::Event {
+            type_id,
+            timestamp_ns,
+            values,
+        } => {
+            assert_eq!(rt; *type_id, WireTypeId(256));
+            assert_eq!(rt; *timestamp_ns, time);
+            assert_eq!(rt; values.len(), 1);
+            assert!(rt; values[0] == FieldValue::Varint(number));
+        }
+    }
+}
+
+#[test]
+fn header_alone(rt: HostRuntime) -> Result<(), Fail> {
+    let mut decoder = Decoder::new(rt.alloc(), &HEADER).ok_or("no header")?;
+    assert_eq!(rt; decoder.version(), 1);
+    assert_eq!(rt; decoder.data_len(), 5);
+    assert!(rt; decoder.next_frame()?.is_none());
+    assert_eq!(rt; decoder.position(), 5);
+    Ok(())
+}
+
+#[test]
+fn any_version(rt: HostRuntime) -> Result<(), Fail> {
+    let bytes = [0x54, 0x52, 0x43, 0x00, 0x07, 0x54, 0x52, 0x43, 0x00, 0x02];
+    let mut decoder = Decoder::new(rt.alloc(), &bytes).ok_or("no header")?;
+    assert!(rt; decoder.next_frame()?.is_none());
+    assert_eq!(rt; decoder.version(), 7);
+    assert_eq!(rt; decoder.position(), 10);
+    Ok(())
+}
+
+#[test]
+fn no_header(rt: HostRuntime) {
+    assert!(rt; Decoder::new(rt.alloc(), &[]).is_none());
+    assert!(rt; Decoder::new(rt.alloc(), &[0x54, 0x52, 0x43, 0x01, 0x01]).is_none());
+    assert!(rt; Decoder::new(rt.alloc(), &[0x54, 0x52, 0x43, 0x00]).is_none());
+}
+
+#[test]
+fn one_event_frame_by_frame(rt: HostRuntime) -> Result<(), Fail> {
+    let mut decoder = Decoder::new(rt.alloc(), &ONE_EVENT).ok_or("no header")?;
+    check_ev(&rt, &decoder.next_frame()?.ok_or("no schema")?);
+    assert_eq!(rt; decoder.position(), 19);
+    check_event(&rt, &decoder.next_frame()?.ok_or("no event")?, 1_000, 42);
+    assert_eq!(rt; decoder.position(), 26);
+    assert!(rt; decoder.next_frame()?.is_none());
+    assert_eq!(rt; decoder.position(), 26);
+    Ok(())
+}
+
+#[test]
+fn every_cut_of_one_event(rt: HostRuntime) -> Result<(), Fail> {
+    for cut in 0..27usize {
+        match Decoder::new(rt.alloc(), &ONE_EVENT[..cut]) {
+            None => assert!(rt; cut < 5),
+            Some(mut decoder) => {
+                let frames = decoder.decode_all()?;
+                let place = if cut < 19 {
+                    assert_eq!(rt; frames.len(), 0);
+                    5
+                } else if cut < 26 {
+                    assert_eq!(rt; frames.len(), 1);
+                    check_ev(&rt, &frames[0]);
+                    19
+                } else {
+                    assert_eq!(rt; frames.len(), 2);
+                    check_event(&rt, &frames[1], 1_000, 42);
+                    26
+                };
+                assert_eq!(rt; decoder.position(), place);
+            }
+        }
+    }
+    Ok(())
+}
+
+#[test]
+fn times_come_back(rt: HostRuntime) -> Result<(), Fail> {
+    let events = [(100_000, 1), (50_000, 2), (200_000_000, 3), (100_000_000, 4)];
+    let bytes = written(rt.alloc(), "TS", &events)?;
+    let mut decoder = Decoder::new(rt.alloc(), bytes.as_slice()).ok_or("no header")?;
+    let frames = decoder.decode_all()?;
+    assert_eq!(rt; frames.len(), 5);
+    for (i, event) in events.iter().enumerate() {
+        assert!(rt; i + 1 < frames.len());
+        check_event(&rt, &frames[i + 1], event.0, event.1);
+    }
+    assert_eq!(rt; decoder.position(), 74);
+    Ok(())
+}
+
+#[test]
+fn two_streams(rt: HostRuntime) -> Result<(), Fail> {
+    let mut bytes = ONE_EVENT.to_vec(rt.alloc())?;
+    bytes.extend_from_slice(&ONE_EVENT)?;
+    let mut decoder = Decoder::new(rt.alloc(), bytes.as_slice()).ok_or("no header")?;
+    let frames = decoder.decode_all()?;
+    assert_eq!(rt; frames.len(), 4);
+    check_event(&rt, &frames[1], 1_000, 42);
+    check_ev(&rt, &frames[2]);
+    check_event(&rt, &frames[3], 1_000, 42);
+    assert_eq!(rt; decoder.position(), 52);
+    Ok(())
+}
+
+#[test]
+fn second_stream_cut_in_its_header(rt: HostRuntime) -> Result<(), Fail> {
+    let mut bytes = ONE_EVENT.to_vec(rt.alloc())?;
+    bytes.extend_from_slice(&ONE_EVENT[..4])?;
+    let mut decoder = Decoder::new(rt.alloc(), bytes.as_slice()).ok_or("no header")?;
+    assert_eq!(rt; decoder.decode_all()?.len(), 2);
+    assert_eq!(rt; decoder.position(), 26);
+    Ok(())
+}
+
+#[test]
+fn conflict(rt: HostRuntime) -> Result<(), Fail> {
+    let mut bytes = ONE_EVENT.to_vec(rt.alloc())?;
+    bytes.extend_from_slice(&[
+        0x01, 0x00, 0x01, 0x02, 0x00, 0x45, 0x76, 0x01, 0x01, 0x00, 0x01, 0x00, 0x77, 0x03,
+    ])?;
+    let mut decoder = Decoder::new(rt.alloc(), bytes.as_slice()).ok_or("no header")?;
+    check_ev(&rt, &decoder.next_frame()?.ok_or("no schema")?);
+    check_event(&rt, &decoder.next_frame()?.ok_or("no event")?, 1_000, 42);
+    for _ in 0..2u8 {
+        match decoder.next_frame() {
+            Ok(_) => assert!(rt; false, "no conflict"),
+            Err(fault) => {
+                assert_eq!(rt; fault.pos, 40);
+                assert_eq!(rt; fault.kind, DecodeErrorKind::Conflict(WireTypeId(256)));
+            }
+        }
+    }
+    assert_eq!(rt; decoder.position(), 40);
+    assert_eq!(rt; decoder.decode_all()?.len(), 0);
+    let mut other = Decoder::new(rt.alloc(), bytes.as_slice()).ok_or("no header")?;
+    assert_eq!(rt; other.decode_all()?.len(), 2);
+    assert_eq!(rt; other.position(), 40);
+    Ok(())
+}
+
+#[test]
+fn same_schema_again(rt: HostRuntime) -> Result<(), Fail> {
+    let mut bytes = ONE_EVENT.to_vec(rt.alloc())?;
+    bytes.extend_from_slice(&EV_SCHEMA)?;
+    let mut decoder = Decoder::new(rt.alloc(), bytes.as_slice()).ok_or("no header")?;
+    assert_eq!(rt; decoder.decode_all()?.len(), 3);
+    assert_eq!(rt; decoder.position(), 40);
+    Ok(())
+}
+
+#[test]
+fn events_without_times(rt: HostRuntime) -> Result<(), Fail> {
+    let bytes = [
+        0x54, 0x52, 0x43, 0x00, 0x01, 0x01, 0x00, 0x01, 0x02, 0x00, 0x45, 0x76, 0x00, 0x01, 0x00,
+        0x01, 0x00, 0x76, 0x09, 0x02, 0x00, 0x01, 0x2A,
+    ];
+    let mut decoder = Decoder::new(rt.alloc(), &bytes).ok_or("no header")?;
+    let frames = decoder.decode_all()?;
+    assert_eq!(rt; frames.len(), 2);
+    check_event(&rt, &frames[1], 0, 42);
+    assert_eq!(rt; decoder.position(), 23);
+    Ok(())
+}

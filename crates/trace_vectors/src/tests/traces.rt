@@ -1,0 +1,52 @@
+//! Traces that several tests use.
+
+use dial9_trace_format::encoder::{Encoder, Schema};
+use dial9_trace_format::leb128::EncodeError;
+use dial9_trace_format::schema::FieldDef;
+use dial9_trace_format::types::{FieldType, FieldValue};
+use std::alloc::{AllocError, Global};
+
+/// A header.
+pub const HEADER: [u8; 5] = [0x54, 0x52, 0x43, 0x00, 0x01];
+
+/// The schema `Ev` with the one field `v` of type Varint, as wire id 256.
+pub const EV_SCHEMA: [u8; 14] = [
+    0x01, 0x00, 0x01, 0x02, 0x00, 0x45, 0x76, 0x01, 0x01, 0x00, 0x01, 0x00, 0x76, 0x09,
+];
+
+/// Header, schema `Ev`, and an event of it at 1,000 with 42.
+pub const ONE_EVENT: [u8; 26] = [
+    0x54, 0x52, 0x43, 0x00, 0x01, 0x01, 0x00, 0x01, 0x02, 0x00, 0x45, 0x76, 0x01, 0x01, 0x00, 0x01,
+    0x00, 0x76, 0x09, 0x02, 0x00, 0x01, 0xE8, 0x03, 0x00, 0x2A,
+];
+
+/// A schema of this name with one field.
+pub fn one_field(
+    alloc: Global,
+    name: &str,
+    field: &str,
+    field_type: FieldType,
+) -> Result<Schema, AllocError> {
+    let mut fields = Vec::new(alloc);
+    fields.push(FieldDef::new(alloc, field, field_type)?)?;
+    Schema::new(alloc, name, fields)
+}
+
+/// The schema `Ev`.
+pub fn ev(alloc: Global) -> Result<Schema, AllocError> {
+    one_field(alloc, "Ev", "v", FieldType::Varint)
+}
+
+/// What an encoder writes for events of one number each.
+pub fn written(
+    alloc: Global,
+    name: &str,
+    events: &[(u64, u64)],
+) -> Result<Vec<u8>, EncodeError> {
+    let schema = one_field(alloc, name, "v", FieldType::Varint)?;
+    let mut encoder = Encoder::new(alloc)?;
+    for event in events {
+        encoder.write_event(&schema, event.0, &[FieldValue::Varint(event.1)])?;
+    }
+    Ok(encoder.finish())
+}
