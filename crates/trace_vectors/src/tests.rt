@@ -1,8 +1,11 @@
 //! Worked examples of the format.
 
+mod fields;
+mod iterators;
 mod numbers;
 mod reading;
 mod texts;
 mod traces;
+mod values;
 mod writers;
 mod writing;

@@ -50,3 +50,22 @@ pub fn written(
     }
     Ok(encoder.finish())
 }
+
+/// So many lists, one in the other; the innermost is empty or holds a number.
+pub fn nested_lists(
+    alloc: Global,
+    depth: usize,
+    filled: bool,
+) -> Result<FieldValue, AllocError> {
+    let mut items = Vec::new(alloc);
+    if filled {
+        items.push(FieldValue::Varint(1))?;
+    }
+    let mut value = FieldValue::List(items);
+    for _ in 1..depth {
+        let mut outer = Vec::new(alloc);
+        outer.push(value)?;
+        value = FieldValue::List(outer);
+    }
+    Ok(value)
+}
