@@ -1,0 +1,5 @@
+//! The lines that tell what a trace holds (docs/FORMAT.md, "Dumps").
+#![tactic(auto)]
+
+pub mod text;
+pub mod value;
