@@ -12,16 +12,7 @@ use trace_values::types::FieldValue;
 
 /// Appends a value: the name of its kind, and what it holds (docs/FORMAT.md, "Dumps").
 #[cycle(value)]
-#[tactic(
-    auto,
-    using(
-        crate::proofs::Joined::value_text_StackFrames,
-        crate::proofs::Joined::value_text_PooledStackFrames,
-        crate::proofs::Joined::value_text_StringMap,
-        crate::proofs::Joined::value_text_List,
-        crate::proofs::Joined::value_text_Map
-    )
-)]
+#[tactic(auto, using(crate::proofs::Joined::value_text_StackFrames, crate::proofs::Joined::value_text_PooledStackFrames, crate::proofs::Joined::value_text_StringMap, crate::proofs::Joined::value_text_List, crate::proofs::Joined::value_text_Map))]
 pub fn push_value(out: &mut String, value: &FieldValue) -> Result<(), AllocError>
     ensures { OnOk result (string_bytes out.new ≡ string_bytes out.old ++ value_text (view value.now)) }
 {

@@ -1,4 +1,4 @@
-use Rattle.std.proofs.Common.{◌≡◌, ◌++◌, ◌∷◌, take, string_bytes, codes}
+use Rattle.std.proofs.Common.{◌≡◌, ◌++◌, take, string_bytes, codes}
 use Rattle.std.specs.List.{flat_map}
 use Rattle.trace_lines.specs.Lines.{address}
 use Rattle.trace_lines.proofs.text.push_addresses.Given as goal

@@ -1,4 +1,4 @@
-use Rattle.std.proofs.Common.{◌≡◌, ◌++◌, take, string_bytes, codes, map}
+use Rattle.std.proofs.Common.{◌≡◌, ◌++◌, take, string_bytes, codes}
 use Rattle.std.specs.List.{flat_map}
 use Rattle.trace_values.specs.View.{view}
 use Rattle.trace_lines.specs.Lines.{value_text}
