@@ -1,0 +1,6 @@
+//! The lines that tell what a trace holds (docs/FORMAT.md, "Dumps").
+#![tactic(auto)]
+
+pub mod lines;
+pub mod text;
+pub mod value;

@@ -1,0 +1,61 @@
+//! Names, texts and addresses as they stand in a line.
+
+ghost use Rattle.std.specs.Prelude.{◌≡◌, ◌++◌, OnOk, codes, string_bytes};
+ghost use Rattle.std.specs.List.{join_by};
+ghost use Rattle.trace_lines.specs.Lines.{escaped_byte, quoted_byte, quoted, address, address_list, sixteen_digits};
+
+use std::alloc::AllocError;
+
+/// Appends bytes in quotes (docs/FORMAT.md, "Dumps").
+#[tactic(auto, unfolding(crate::specs::Lines::quoted))]
+pub fn push_quoted(out: &mut String, bytes: &[u8]) -> Result<(), AllocError>
+    ensures { OnOk result (string_bytes out.new ≡ string_bytes out.old ++ quoted bytes.now) }
+{
+    out.push('"')?;
+    for byte in bytes {
+        push_quoted_byte(out, *byte)?;
+    }
+    out.push('"')
+}
+
+/// Appends addresses in brackets (docs/FORMAT.md, "Dumps").
+#[tactic(auto, unfolding(crate::specs::Lines::address_list))]
+pub fn push_addresses(out: &mut String, addresses: &[u64]) -> Result<(), AllocError>
+    ensures { OnOk result (string_bytes out.new ≡ string_bytes out.old ++ address_list addresses.now) }
+{
+    out.push('[')?;
+    if let Some((first, others)) = addresses.split_first() {
+        write!(out, "0x{first:x}")?;
+        for address in others {
+            write!(out, ",0x{address:x}")?;
+        }
+    }
+    out.push(']')
+}
+
+/// Appends the sixteen hexadecimal digits of a number.
+#[tactic(auto, using(crate::proofs::HexDigits::padded_16))]
+pub fn push_sixteen_digits(out: &mut String, number: u64) -> Result<(), AllocError>
+    ensures { OnOk result (string_bytes out.new ≡ string_bytes out.old ++ sixteen_digits number) }
+{
+    write!(out, "{number:016x}")
+}
+
+// Appends a byte as it stands between quotes.
+#[tactic(auto, unfolding(crate::specs::Lines::quoted_byte))]
+fn push_quoted_byte(out: &mut String, byte: u8) -> Result<(), AllocError>
+    ensures { OnOk result (string_bytes out.new ≡ string_bytes out.old ++ quoted_byte byte) }
+{
+    match byte {
+        b'"' | b'\\' => push_escaped_byte(out, byte),
+        b' '..=b'~' => out.push(byte as char),
+        _ => push_escaped_byte(out, byte),
+    }
+}
+
+#[tactic(auto, unfolding(crate::specs::Lines::escaped_byte), using(crate::proofs::HexDigits::hex_byte))]
+fn push_escaped_byte(out: &mut String, byte: u8) -> Result<(), AllocError>
+    ensures { OnOk result (string_bytes out.new ≡ string_bytes out.old ++ escaped_byte byte) }
+{
+    write!(out, "\\x{byte:02X}")
+}

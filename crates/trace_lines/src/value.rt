@@ -1,0 +1,114 @@
+//! Values as they stand in a line.
+
+ghost use Rattle.std.specs.Prelude.{◌≡◌, ◌++◌, OnOk, codes, string_bytes, map};
+ghost use Rattle.std.specs.List.{join_by};
+ghost use Rattle.trace_values.specs.Reading.{values_to_items, values_to_pairs};
+ghost use Rattle.trace_values.specs.View.{view, views, pair_views, text_pairs_view};
+ghost use Rattle.trace_lines.specs.Lines.{truth, text_pair, value_text, item_texts, pair_texts};
+
+use crate::text::{push_addresses, push_quoted, push_sixteen_digits};
+use std::alloc::AllocError;
+use trace_values::types::FieldValue;
+
+/// Appends a value: the name of its kind, and what it holds (docs/FORMAT.md, "Dumps").
+#[cycle(value)]
+#[tactic(auto, using(crate::proofs::Joined::value_text_StackFrames, crate::proofs::Joined::value_text_PooledStackFrames, crate::proofs::Joined::value_text_StringMap, crate::proofs::Joined::value_text_List, crate::proofs::Joined::value_text_Map))]
+pub fn push_value(out: &mut String, value: &FieldValue) -> Result<(), AllocError>
+    ensures { OnOk result (string_bytes out.new ≡ string_bytes out.old ++ value_text (view value.now)) }
+{
+    match value {
+        FieldValue::I64(number) => write!(out, "I64:{number}"),
+        FieldValue::F64(bits) => {
+            out.push_str("F64:0x")?;
+            push_sixteen_digits(out, *bits)
+        }
+        FieldValue::Bool(flag) => write!(out, "Bool:{flag}"),
+        FieldValue::String(text) => {
+            out.push_str("String:")?;
+            push_quoted(out, text.as_bytes())
+        }
+        FieldValue::Bytes(bytes) => {
+            out.push_str("Bytes:")?;
+            push_quoted(out, bytes)
+        }
+        FieldValue::PooledString(id) => write!(out, "PooledString:{id:?}"),
+        FieldValue::StackFrames(frames) => {
+            out.push_str("StackFrames:")?;
+            push_addresses(out, frames.as_slice())
+        }
+        FieldValue::PooledStackFrames(id) => write!(out, "PooledStackFrames:{id:?}"),
+        FieldValue::Varint(number) => write!(out, "Varint:{number}"),
+        FieldValue::StringMap(pairs) => {
+            out.push_str("StringMap:{")?;
+            push_text_pairs(out, pairs)?;
+            out.push('}')
+        }
+        FieldValue::List(items) => {
+            out.push_str("List:[")?;
+            push_items(out, items)?;
+            out.push(']')
+        }
+        FieldValue::Map(pairs) => {
+            out.push_str("Map:{")?;
+            push_pairs(out, pairs)?;
+            out.push('}')
+        }
+        FieldValue::None => out.push_str("None"),
+    }
+}
+
+#[cycle(value)]
+fn push_items(out: &mut String, items: &[FieldValue]) -> Result<(), AllocError>
+    ensures { OnOk result (string_bytes out.new ≡ string_bytes out.old ++ join_by (λ v. value_text (view v)) (codes ",") items.now) }
+{
+    let Some((first, others)) = items.split_first() else {
+        return Ok(());
+    };
+    push_value(out, first)?;
+    for item in others {
+        out.push(',')?;
+        push_value(out, item)?;
+    }
+    Ok(())
+}
+
+#[cycle(value)]
+fn push_pairs(out: &mut String, pairs: &[(FieldValue, FieldValue)]) -> Result<(), AllocError>
+    ensures { OnOk result (string_bytes out.new ≡ string_bytes out.old ++ join_by (λ p. value_text (view p.0) ++ codes "=" ++ value_text (view p.1)) (codes ",") pairs.now) }
+{
+    let Some((first, others)) = pairs.split_first() else {
+        return Ok(());
+    };
+    push_value(out, &first.0)?;
+    out.push('=')?;
+    push_value(out, &first.1)?;
+    for pair in others {
+        out.push(',')?;
+        push_value(out, &pair.0)?;
+        out.push('=')?;
+        push_value(out, &pair.1)?;
+    }
+    Ok(())
+}
+
+fn push_text_pairs(out: &mut String, pairs: &[(Vec<u8>, Vec<u8>)]) -> Result<(), AllocError>
+    ensures { OnOk result (string_bytes out.new ≡ string_bytes out.old ++ join_by (λ p. text_pair (p.0.items, p.1.items)) (codes ",") pairs.now) }
+{
+    let Some((first, others)) = pairs.split_first() else {
+        return Ok(());
+    };
+    push_text_pair(out, first)?;
+    for pair in others {
+        out.push(',')?;
+        push_text_pair(out, pair)?;
+    }
+    Ok(())
+}
+
+fn push_text_pair(out: &mut String, pair: &(Vec<u8>, Vec<u8>)) -> Result<(), AllocError>
+    ensures { OnOk result (string_bytes out.new ≡ string_bytes out.old ++ text_pair (pair.now.0.items, pair.now.1.items)) }
+{
+    push_quoted(out, &pair.0)?;
+    out.push('=')?;
+    push_quoted(out, &pair.1)
+}
