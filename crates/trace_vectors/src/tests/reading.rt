@@ -2,7 +2,7 @@
 
 use crate::tests::traces::{EV_SCHEMA, HEADER, ONE_EVENT, written};
 use dial9_trace_format::decoder::{DecodeErrorKind, DecodedFrame, Decoder};
-use dial9_trace_format::schema::WireTypeId;
+use dial9_trace_format::codec::WireTypeId;
 use dial9_trace_format::types::{FieldType, FieldValue};
 use std::process::Abort;
 use std::test::Fail;

@@ -2,7 +2,7 @@
 
 use dial9_trace_format::decoder::{DecodeError, DecodeErrorKind};
 use dial9_trace_format::leb128::EncodeError;
-use dial9_trace_format::schema::WireTypeId;
+use dial9_trace_format::codec::WireTypeId;
 use std::io::ErrorKind;
 use std::test::Fail;
 

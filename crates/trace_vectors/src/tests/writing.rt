@@ -3,7 +3,7 @@
 use crate::tests::traces::{EV_SCHEMA, HEADER, ONE_EVENT, ev, one_field, written};
 use dial9_trace_format::encoder::{Call, Encoder, Reply, run_calls};
 use dial9_trace_format::leb128::EncodeError;
-use dial9_trace_format::schema::{FieldDef, WireTypeId};
+use dial9_trace_format::{codec::WireTypeId, schema::FieldDef};
 use dial9_trace_format::types::{FieldType, FieldValue};
 use std::test::Fail;
 
