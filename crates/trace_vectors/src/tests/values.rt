@@ -41,7 +41,7 @@ fn check_read(
     more.push(0xFF)?;
     let (owned, rest) = FieldValue::decode(alloc, field_type, more.as_slice())?.ok_or("no value")?;
     assert!(rt; owned == *value);
-    assert_eq!(rt; rest, &[0xFF]);
+    assert_eq!(rt; rest, [0xFF].as_slice());
     let (borrowed, length) =
         FieldValueRef::decode(alloc, field_type, more.as_slice(), 0)?.ok_or("no value")?;
     assert_eq!(rt; length, bytes.len());
