@@ -1,2 +1,3 @@
 mod HexDigits
 mod Joined
+mod DumpLemmas
