@@ -1,11 +1,11 @@
 -- What the dump of given bytes is: its lines, and the status that the program ends with.
-use Rattle.std.specs.Prelude.{◌≡◌, ◌⊎◌, ℕ, ◌-◌, List, ◌++◌, length}
+use Rattle.std.specs.Prelude.{◌≡◌, ◌⊎◌, ℕ, ◌-◌, List, ◌++◌, length, drop}
 use Rattle.std.specs.List.{flat_map}
 use Rattle.trace_values.specs.Values.{owned_reader}
 use Rattle.trace_wire.specs.Schemas.{Layout}
 use Rattle.trace_wire.specs.Frames.{Grammar, empty, Frame, Schema}
-use Rattle.trace_wire.specs.Canonical.{header_bytes}
 use Rattle.trace_wire.specs.Runs.{Begins, Ending, Whole, Stopped, Conflict, IsLongest, Item, items}
+use Rattle.dial9_trace_format.specs.Decoding.{StartsWith}
 use Rattle.trace_lines.specs.Lines.{line, item_line, first_line, no_header_line, whole_line, stopped_line, conflict_line}
 
 -- the line of each item
@@ -31,25 +31,26 @@ pub record IsDumpFrom (g : Grammar) (size : ℕ) (bytes : List ℕ) (status : �
   pub ends : IsEnd size last rest end status last_line
   pub text_is : text ≡ item_lines (items frames) ++ line last_line
 
--- a stream stands there: a header, and bytes behind it
-abbrev pub HasHeader : List ℕ → Type 0
-HasHeader input = (version : ℕ) × (bytes : List ℕ) × (input ≡ header_bytes version ++ bytes)
-
--- the dump of an input that is no stream
+-- the dump of an input that does not begin with a header
 pub record IsNoDump (input : List ℕ) (status : ℕ) (text : List ℕ) : Type 0 where
-  pub no_header : HasHeader input → ⊥
+  pub no_header : (version : ℕ) → StartsWith input version → ⊥
   pub status_is : status ≡ 1
   pub text_is : text ≡ line no_header_line
 
--- the dump of a stream: its version, and the lines of what stands behind the header
+-- the dump of a stream: its version, and the lines of what stands behind the five bytes of its header
 pub record IsStreamDump (input : List ℕ) (status : ℕ) (text : List ℕ) : Type 0 where
   pub version : ℕ
-  pub bytes : List ℕ
-  pub parts : input ≡ header_bytes version ++ bytes
+  pub header : StartsWith input version
   pub lines : List ℕ
-  pub behind : IsDumpFrom empty (length input) bytes status lines
+  pub behind : IsDumpFrom empty (length input) (drop 5 input) status lines
   pub text_is : text ≡ line (first_line version) ++ lines
 
 -- the dump of any input
 abbrev pub IsDump : List ℕ → ℕ → List ℕ → Type 0
 IsDump input status text = IsNoDump input status text ⊎ IsStreamDump input status text
+
+-- bytes that the dump of an input begins with
+pub record BeginsDump (input : List ℕ) (written : List ℕ) : Type 0 where
+  pub status : ℕ
+  pub behind : List ℕ
+  pub is : IsDump input status (written ++ behind)
