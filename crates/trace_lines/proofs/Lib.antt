@@ -1,2 +1,5 @@
 mod HexDigits
 mod Joined
+mod DumpLemmas
+mod Growing
+mod Placing

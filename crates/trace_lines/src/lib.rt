@@ -1,6 +1,7 @@
 //! The lines that tell what a trace holds (docs/FORMAT.md, "Dumps").
 #![tactic(auto)]
 
-pub mod lines;
-pub mod text;
-pub mod value;
+pub mod dump;
+mod lines;
+mod text;
+mod value;
