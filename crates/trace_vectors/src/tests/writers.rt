@@ -65,9 +65,15 @@ fn writer_fails_after_eight_bytes(rt: HostRuntime) -> Result<(), Fail> {
     assert_eq!(rt; encoder.register_existing(&schema), fault);
     assert_eq!(rt; encoder.bytes_written(), 8);
     assert_eq!(rt; encoder.as_inner().taken.as_slice(), &ONE_EVENT[..8]);
-    assert_eq!(rt; encoder.register_existing(&schema), Err(EncodeError::Failed));
+    assert_eq!(rt;
+        encoder.register_existing(&schema),
+        Err(EncodeError::Failed)
+    );
     let values = [FieldValue::Varint(42)];
-    assert_eq!(rt; encoder.write_event(&schema, 1_000, &values), Err(EncodeError::Failed));
+    assert_eq!(rt;
+        encoder.write_event(&schema, 1_000, &values),
+        Err(EncodeError::Failed)
+    );
     assert_eq!(rt; encoder.bytes_written(), 8);
     assert_eq!(rt; encoder.into_inner().taken.as_slice(), &ONE_EVENT[..8]);
     Ok(())
