@@ -1,6 +1,6 @@
 //! The example of the README.
 
-use dial9_trace_format::decoder::{DecodedFrame, Decoder};
+use dial9_trace_format::decoder::{DecodeError, DecodedFrame, Decoder};
 use dial9_trace_format::encoder::Encoder;
 use dial9_trace_format::leb128::EncodeError;
 use dial9_trace_format::schema::FieldDef;
@@ -18,29 +18,18 @@ fn write(alloc: Global) -> Result<Vec<u8>, EncodeError> {
     Ok(encoder.finish())
 }
 
-/// The number of events in a trace, and the time of the last one in nanoseconds.
-fn count(alloc: Global, bytes: &[u8]) -> (usize, u64) {
-    let mut found = (0, 0);
-    let Some(mut decoder) = Decoder::new(alloc, bytes) else {
-        return found;
-    };
-    'frames: while let Ok(Some(frame)) = decoder.next_frame() {
-        if let DecodedFrame::Event {
-            type_id: _,
-            timestamp_ns,
-            values: _,
-        } = frame
-        {
-            found = (found.0 + 1, timestamp_ns);
-        }
+/// All that a trace holds up to its end, or up to bytes where no frame stands.
+fn read(alloc: Global, bytes: &[u8]) -> Result<Vec<DecodedFrame>, DecodeError> {
+    match Decoder::new(alloc, bytes) {
+        Some(mut decoder) => decoder.decode_all(),
+        None => Ok(Vec::new(alloc)),
     }
-    found
 }
 
 #[test]
 fn example(rt: HostRuntime) -> Result<(), Fail> {
     let trace = write(rt.alloc())?;
     assert_eq!(rt; trace.len(), 26);
-    assert_eq!(rt; count(rt.alloc(), &trace), (1, 1_000));
+    assert_eq!(rt; read(rt.alloc(), &trace)?.len(), 2);
     Ok(())
 }

@@ -1,5 +1,7 @@
 //! Writers that fail, and one that takes a byte at a time.
 
+ghost use Rattle.std.specs.Prelude.{None};
+
 use crate::tests::traces::{ONE_EVENT, ev};
 use dial9_trace_format::encoder::Encoder;
 use dial9_trace_format::leb128::{EncodeError, TraceWrite};
