@@ -3,5 +3,5 @@
 
 pub mod dump;
 mod lines;
-mod text;
-mod value;
+pub mod text;
+pub mod value;

@@ -1,0 +1,4 @@
+pub mod Definitions
+pub mod Pools
+pub mod Scripts
+pub mod Recordings
