@@ -6,7 +6,7 @@ use Rattle.trace_values.specs.Values.{Value}
 use Rattle.trace_values.specs.View.{views}
 use Rattle.trace_lines.specs.Lines.{quoted, address_list, spaced_value}
 use Rattle.trace_replay.specs.declared.script.call.Call.{Call}
-use Rattle.trace_replay.specs.declared.script.call.Call.TheVariants.{Define, Register, Event, Type, Write, InternString, InternStack, StringPool, StackPool, Reset, Resume, Raw, Bare}
+use Rattle.trace_replay.specs.declared.script.call.Call.TheVariants.{Define, Register, Event, DefineType, WriteTyped, InternString, InternStack, StringPool, StackPool, Reset, Resume, Raw, Bare}
 use Rattle.trace_replay.specs.Definitions.{definition_text}
 use Rattle.trace_replay.specs.Pools.{pool_text_text, pool_stack_text}
 
@@ -23,8 +23,8 @@ abbrev pub Says : Call → List ℕ → Type 0
 Says (Define handle definition) line = line ≡ codes "define " ++ decimal handle ++ codes " " ++ definition_text definition
 Says (Register handle) line = line ≡ codes "register " ++ decimal handle
 Says (Event handle time values) line = line ≡ codes "event " ++ event_text handle time (views values.items)
-Says (Type handle slot definition) line = line ≡ codes "type " ++ decimal handle ++ codes " " ++ decimal slot ++ codes " " ++ definition_text definition
-Says (Write handle time values) line = line ≡ codes "write " ++ event_text handle time (views values.items)
+Says (DefineType handle slot definition) line = line ≡ codes "type " ++ decimal handle ++ codes " " ++ decimal slot ++ codes " " ++ definition_text definition
+Says (WriteTyped handle time values) line = line ≡ codes "write " ++ event_text handle time (views values.items)
 Says (InternString text) line = line ≡ codes "string " ++ quoted (string_bytes text)
 Says (InternStack frames) line = line ≡ codes "stack " ++ address_list frames.items
 Says (StringPool entries) line = line ≡ codes "strings" ++ flat_map pool_text_text entries.items

@@ -75,13 +75,17 @@ fn replay_set(rt: &(impl AllocGlobal + Files + Print), set: &str) -> Result<bool
     for recording in &recordings {
         let findings = findings_of(alloc, *recording)?;
         for difference in &findings.differences {
-            let name = recording.name;
-            println!(rt; "{set} {name}: {difference}")?;
+            print_difference(rt, set, recording.name, difference.as_str())?;
         }
         tally.add(&findings)?;
     }
     println!(rt; "{set}: {tally}")?;
     Ok(tally.differs())
+}
+
+/// Prints what differs in a recording of a set.
+fn print_difference(rt: &impl Print, set: &str, name: &str, difference: &str) -> io::Result<()> {
+    println!(rt; "{set} {name}: {difference}")
 }
 
 /// Plays the script on standard input, writes the trace to standard output and the replies to standard error.

@@ -1,8 +1,8 @@
 //! Packed recordings of traces (docs/RECORDINGS.md, "The files").
 
-ghost use Rattle.std.specs.Prelude.{◌≡◌, List, ℕ, ◌++◌, IfOk, codes};
+ghost use Rattle.std.specs.Prelude.{◌≡◌, ◌<◌, List, ℕ, ◌++◌, length, IfOk, IfSome, codes};
 ghost use Rattle.std.specs.List.{flat_map};
-ghost use Rattle.trace_replay.specs.Recordings.{calls_text, recording_text, IsFile};
+ghost use Rattle.trace_replay.specs.Recordings.{calls_text, making_text, recording_lines, recording_text, IsFile};
 
 use std::alloc::{AllocError, AllocFailed, Global};
 use thiserror::Error;
@@ -50,42 +50,71 @@ impl<T: Drop> From<AllocFailed<T>> for RecordingError {
 pub fn recordings_of(alloc: Global, file: &str) -> Result<Vec<Recording<'_>>, RecordingError>
     ensures { IfOk result (λ v. IsFile v.items file.now) }
 {
-    let (_, mut rest) = file.split_once("\n\n").ok_or(RecordingError::Head)?;
+    let (_, recordings) = file.split_once("\n\n").ok_or(RecordingError::Head)?;
+    recordings_in(alloc, recordings)
+}
+
+// The recordings up to the end of a file.
+fn recordings_in(alloc: Global, text: &str) -> Result<Vec<Recording<'_>>, RecordingError>
+    ensures { IfOk result (λ v. text.now ≡ flat_map recording_text v.items) }
+{
     let mut recordings = Vec::new(alloc);
+    let mut rest = text;
     while !rest.is_empty() {
-        let broken = RecordingError::Parts(recordings.len().saturating_add(1));
-        let (front, after) = rest.split_once("\n# end\n").ok_or(broken)?;
-        recordings.push(recording_of(front).ok_or(broken)?)?;
+        let number = recordings.len().saturating_add(1);
+        let (recording, after) = recording_at(rest).ok_or(RecordingError::Parts(number))?;
+        recordings.push(recording)?;
         rest = after;
     }
     Ok(recordings)
 }
 
-// The recording of these lines, up to the one that ends it.
+// The recording at the front, and the rest.
+fn recording_at(text: &str) -> Option<(Recording<'_>, &str)>
+    ensures parts { IfSome result (λ x. text.now ≡ recording_text x.0 ++ x.1.now) }
+    ensures shorter { IfSome result (λ x. length x.1.now < length text.now) }
+{
+    let (lines, rest) = text.split_once("\n# end\n")?;
+    Some((recording_of(lines)?, rest))
+}
+
+// The recording of these lines.
+#[tactic(auto, unfolding(crate::specs::Recordings::recording_lines))]
 fn recording_of(lines: &str) -> Option<Recording<'_>>
-    ensures { IfSome result (λ r. recording_text r ≡ lines.now ++ codes "\n# end\n") }
+    ensures { IfSome result (λ r. lines.now ≡ recording_lines r) }
 {
     let named = lines.strip_prefix("== ")?;
     let (front, dump) = named.split_once("\n# dump\n")?;
-    match front.split_once("\n# script\n") {
-        None => {
-            let (name, bytes) = front.split_once("\n# bytes\n")?;
-            Some(Recording {
-                name,
-                calls: None,
-                bytes,
-                dump,
-            })
-        }
+    let (name, calls, bytes) = making_of(front)?;
+    Some(Recording {
+        name,
+        calls,
+        bytes,
+        dump,
+    })
+}
+
+// A name, the calls where there are some, and the bytes.
+fn making_of(lines: &str) -> Option<(&str, Option<Calls<'_>>, &str)>
+    ensures { IfSome result (λ x. lines.now ≡ x.0.now ++ making_text x.1 x.2.now) }
+{
+    match lines.split_once("\n# script\n") {
         Some((name, rest)) => {
-            let (script, rest) = rest.split_once("\n# bytes\n")?;
-            let (bytes, replies) = rest.split_once("\n# replies\n")?;
-            Some(Recording {
-                name,
-                calls: Some(Calls { script, replies }),
-                bytes,
-                dump,
-            })
+            let (calls, bytes) = calls_of(rest)?;
+            Some((name, Some(calls), bytes))
+        }
+        None => {
+            let (name, bytes) = lines.split_once("\n# bytes\n")?;
+            Some((name, None, bytes))
         }
     }
+}
+
+// The calls and the bytes.
+fn calls_of(lines: &str) -> Option<(Calls<'_>, &str)>
+    ensures { IfSome result (λ x. lines.now ≡ calls_text x.0 x.1.now) }
+{
+    let (script, rest) = lines.split_once("\n# bytes\n")?;
+    let (bytes, replies) = rest.split_once("\n# replies\n")?;
+    Some((Calls { script, replies }, bytes))
 }

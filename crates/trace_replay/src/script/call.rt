@@ -24,13 +24,13 @@ pub enum Call {
         values: Vec<FieldValue>,
     },
     /// Makes a type of events that has a slot.
-    Type {
+    DefineType {
         handle: u64,
         slot: u64,
         definition: Definition,
     },
     /// Writes an event of a type.
-    Write {
+    WriteTyped {
         handle: u64,
         time: u64,
         values: Vec<FieldValue>,
@@ -70,8 +70,8 @@ impl Call {
             Call::Define { .. } => "define",
             Call::Register { .. } => "register",
             Call::Event { .. } => "event",
-            Call::Type { .. } => "type",
-            Call::Write { .. } => "write",
+            Call::DefineType { .. } => "type",
+            Call::WriteTyped { .. } => "write",
             Call::InternString { .. } => "string",
             Call::InternStack { .. } => "stack",
             Call::StringPool { .. } => "strings",

@@ -27,6 +27,7 @@ pub struct Annotation {
 }
 
 /// The definition that a whole line says: its name, its fields, and its annotations.
+#[tactic(auto, unfolding(crate::specs::Definitions::definition_text))]
 pub fn definition_of(alloc: Global, line: &[u8]) -> Result<Definition, Fault>
     ensures { IfOk result (λ definition. line.now ≡ definition_text definition) }
 {
@@ -55,6 +56,7 @@ fn fields_at(alloc: Global, line: &[u8]) -> Result<(Vec<FieldDef>, &[u8]), Fault
 }
 
 // A space, a name, a colon and a type, and the rest.
+#[tactic(auto, unfolding(trace_lines::specs::Lines::field_text))]
 fn field_at(alloc: Global, line: &[u8]) -> Result<(FieldDef, &[u8]), Fault>
     ensures text { IfOk result (λ x. line.now ≡ field_text x.0 ++ x.1.now) }
     ensures shorter { IfOk result (λ x. length x.1.now < length line.now) }
@@ -81,6 +83,7 @@ fn annotations_of(alloc: Global, line: &[u8]) -> Result<Vec<Annotation>, Fault>
 }
 
 // A space, `@`, the index of a field, a colon, a key, an equals sign and a value, and the rest.
+#[tactic(auto, unfolding(crate::specs::Definitions::annotation_text))]
 fn annotation_at(alloc: Global, line: &[u8]) -> Result<(Annotation, &[u8]), Fault>
     ensures text { IfOk result (λ x. line.now ≡ annotation_text x.0 ++ x.1.now) }
     ensures shorter { IfOk result (λ x. length x.1.now < length line.now) }

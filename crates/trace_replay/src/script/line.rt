@@ -1,8 +1,8 @@
 //! The lines of a script.
 
-ghost use Rattle.std.specs.Prelude.{◌≡◌, ◌++◌, [], IfOk, OnOk, codes, decimal};
+ghost use Rattle.std.specs.Prelude.{◌≡◌, ◌<◌, ◌++◌, [], length, IfOk, OnOk, codes, decimal};
 ghost use Rattle.std.specs.List.{flat_map};
-ghost use Rattle.trace_values.specs.View.{views};
+ghost use Rattle.trace_values.specs.View.{view, views};
 ghost use Rattle.trace_lines.specs.Lines.{spaced_value};
 ghost use Rattle.trace_replay.specs.Scripts.{event_text, AreDigitsOf, Says};
 
@@ -45,7 +45,7 @@ pub fn call_of(alloc: Global, line: &[u8]) -> Result<Call, Fault>
     }
     if let Some(rest) = behind(line, b"write ") {
         let (handle, time, values) = event(alloc, rest)?;
-        return Ok(Call::Write {
+        return Ok(Call::WriteTyped {
             handle,
             time,
             values,
@@ -92,7 +92,7 @@ fn event_type(alloc: Global, line: &[u8]) -> Result<Call, Fault>
     let (handle, rest) = number_at(alloc, line)?;
     let (slot, rest) = number_at(alloc, space(rest)?)?;
     let definition = definition_of(alloc, space(rest)?)?;
-    Ok(Call::Type {
+    Ok(Call::DefineType {
         handle,
         slot,
         definition,
@@ -100,6 +100,7 @@ fn event_type(alloc: Global, line: &[u8]) -> Result<Call, Fault>
 }
 
 // A handle, a time, and the values of an event.
+#[tactic(auto, unfolding(crate::specs::Scripts::event_text))]
 fn event(alloc: Global, line: &[u8]) -> Result<(u64, u64, Vec<FieldValue>), Fault>
     ensures { IfOk result (λ x. line.now ≡ event_text x.0 x.1 (views x.2.items)) }
 {
@@ -116,11 +117,19 @@ fn values_of(alloc: Global, line: &[u8]) -> Result<Vec<FieldValue>, Fault>
     let mut values = Vec::new(alloc);
     let mut rest = line;
     while !rest.is_empty() {
-        let (value, after) = value_at(alloc, space(rest)?)?;
+        let (value, after) = spaced_value_at(alloc, rest)?;
         values.push(value)?;
         rest = after;
     }
     Ok(values)
+}
+
+// A value behind a space, and the rest.
+fn spaced_value_at(alloc: Global, line: &[u8]) -> Result<(FieldValue, &[u8]), Fault>
+    ensures text { IfOk result (λ x. line.now ≡ spaced_value (view x.0) ++ x.1.now) }
+    ensures shorter { IfOk result (λ x. length x.1.now < length line.now) }
+{
+    value_at(alloc, space(line)?)
 }
 
 // The bytes of hexadecimal digits, between which spaces may stand.

@@ -84,45 +84,46 @@ pub fn type_at(line: &[u8]) -> Result<(FieldType, &[u8]), Fault>
         .position(|byte| !byte.is_ascii_alphanumeric())
         .unwrap_or(line.len());
     let (name, rest) = line.split_at(end);
+    let name = str::from_utf8(name).map_err(|_| Fault::FieldType)?;
     let field_type = type_of(name).ok_or(Fault::FieldType)?;
     Ok((field_type, rest))
 }
 
 // The type that has the name.
-fn type_of(name: &[u8]) -> Option<FieldType>
+fn type_of(name: &str) -> Option<FieldType>
     ensures { IfSome result (λ t. name.now ≡ type_name t) }
 {
     match name {
-        b"I64" => Some(FieldType::I64),
-        b"F64" => Some(FieldType::F64),
-        b"Bool" => Some(FieldType::Bool),
-        b"String" => Some(FieldType::String),
-        b"Bytes" => Some(FieldType::Bytes),
-        b"PooledStackFrames" => Some(FieldType::PooledStackFrames),
-        b"PooledString" => Some(FieldType::PooledString),
-        b"StackFrames" => Some(FieldType::StackFrames),
-        b"Varint" => Some(FieldType::Varint),
-        b"StringMap" => Some(FieldType::StringMap),
-        b"U8" => Some(FieldType::U8),
-        b"U16" => Some(FieldType::U16),
-        b"U32" => Some(FieldType::U32),
-        b"DynamicList" => Some(FieldType::DynamicList),
-        b"DynamicMap" => Some(FieldType::DynamicMap),
-        b"OptionalI64" => Some(FieldType::OptionalI64),
-        b"OptionalF64" => Some(FieldType::OptionalF64),
-        b"OptionalBool" => Some(FieldType::OptionalBool),
-        b"OptionalString" => Some(FieldType::OptionalString),
-        b"OptionalBytes" => Some(FieldType::OptionalBytes),
-        b"OptionalPooledStackFrames" => Some(FieldType::OptionalPooledStackFrames),
-        b"OptionalPooledString" => Some(FieldType::OptionalPooledString),
-        b"OptionalStackFrames" => Some(FieldType::OptionalStackFrames),
-        b"OptionalVarint" => Some(FieldType::OptionalVarint),
-        b"OptionalStringMap" => Some(FieldType::OptionalStringMap),
-        b"OptionalU8" => Some(FieldType::OptionalU8),
-        b"OptionalU16" => Some(FieldType::OptionalU16),
-        b"OptionalU32" => Some(FieldType::OptionalU32),
-        b"OptionalDynamicList" => Some(FieldType::OptionalDynamicList),
-        b"OptionalDynamicMap" => Some(FieldType::OptionalDynamicMap),
+        "I64" => Some(FieldType::I64),
+        "F64" => Some(FieldType::F64),
+        "Bool" => Some(FieldType::Bool),
+        "String" => Some(FieldType::String),
+        "Bytes" => Some(FieldType::Bytes),
+        "PooledStackFrames" => Some(FieldType::PooledStackFrames),
+        "PooledString" => Some(FieldType::PooledString),
+        "StackFrames" => Some(FieldType::StackFrames),
+        "Varint" => Some(FieldType::Varint),
+        "StringMap" => Some(FieldType::StringMap),
+        "U8" => Some(FieldType::U8),
+        "U16" => Some(FieldType::U16),
+        "U32" => Some(FieldType::U32),
+        "DynamicList" => Some(FieldType::DynamicList),
+        "DynamicMap" => Some(FieldType::DynamicMap),
+        "OptionalI64" => Some(FieldType::OptionalI64),
+        "OptionalF64" => Some(FieldType::OptionalF64),
+        "OptionalBool" => Some(FieldType::OptionalBool),
+        "OptionalString" => Some(FieldType::OptionalString),
+        "OptionalBytes" => Some(FieldType::OptionalBytes),
+        "OptionalPooledStackFrames" => Some(FieldType::OptionalPooledStackFrames),
+        "OptionalPooledString" => Some(FieldType::OptionalPooledString),
+        "OptionalStackFrames" => Some(FieldType::OptionalStackFrames),
+        "OptionalVarint" => Some(FieldType::OptionalVarint),
+        "OptionalStringMap" => Some(FieldType::OptionalStringMap),
+        "OptionalU8" => Some(FieldType::OptionalU8),
+        "OptionalU16" => Some(FieldType::OptionalU16),
+        "OptionalU32" => Some(FieldType::OptionalU32),
+        "OptionalDynamicList" => Some(FieldType::OptionalDynamicList),
+        "OptionalDynamicMap" => Some(FieldType::OptionalDynamicMap),
         _ => None,
     }
 }

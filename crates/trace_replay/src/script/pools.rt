@@ -51,6 +51,7 @@ pub fn pool_stacks(alloc: Global, line: &[u8]) -> Result<Vec<PoolStack>, Fault>
 }
 
 // An entry of a string pool, and the rest.
+#[tactic(auto, unfolding(crate::specs::Pools::pool_text_text))]
 fn pool_text_at(alloc: Global, line: &[u8]) -> Result<(PoolText, &[u8]), Fault>
     ensures text { IfOk result (λ x. line.now ≡ pool_text_text x.0 ++ x.1.now) }
     ensures shorter { IfOk result (λ x. length x.1.now < length line.now) }
@@ -61,6 +62,7 @@ fn pool_text_at(alloc: Global, line: &[u8]) -> Result<(PoolText, &[u8]), Fault>
 }
 
 // An entry of a stack pool, and the rest.
+#[tactic(auto, unfolding(crate::specs::Pools::pool_stack_text))]
 fn pool_stack_at(alloc: Global, line: &[u8]) -> Result<(PoolStack, &[u8]), Fault>
     ensures text { IfOk result (λ x. line.now ≡ pool_stack_text x.0 ++ x.1.now) }
     ensures shorter { IfOk result (λ x. length x.1.now < length line.now) }
@@ -71,6 +73,7 @@ fn pool_stack_at(alloc: Global, line: &[u8]) -> Result<(PoolStack, &[u8]), Fault
 }
 
 // A space, an id and a colon, and the rest.
+#[tactic(auto, unfolding(crate::specs::Pools::id_text))]
 fn id_at(alloc: Global, line: &[u8]) -> Result<(u32, &[u8]), Fault>
     ensures text { IfOk result (λ x. line.now ≡ id_text x.0 ++ x.1.now) }
     ensures shorter { IfOk result (λ x. length x.1.now < length line.now) }
