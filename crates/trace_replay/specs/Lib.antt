@@ -1,3 +1,4 @@
+pub mod Comparisons
 pub mod Definitions
 pub mod Pools
 pub mod Scripts

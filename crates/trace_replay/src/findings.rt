@@ -1,21 +1,26 @@
 //! What a recording shows of the library.
 
-use crate::compare::{first_difference, line_note};
+ghost use Rattle.std.specs.Prelude.{◌≡◌, [], Ok, List, ℕ, IfOk, IfSome, IsNone};
+ghost use Rattle.hex.specs.Hex.{decode_of};
+ghost use Rattle.trace_lines.specs.Dumps.{IsDump};
+ghost use Rattle.trace_replay.specs.Comparisons.{ended, HasLine};
+
+use crate::compare::{bytes_difference, lines_difference};
 use crate::player::{PlayError, Played, play};
 use crate::recording::{Calls, Recording};
 use crate::script::script_of;
 use std::alloc::{AllocError, Global};
-use trace_lines::dump::{CONFLICT, NO_HEADER, STOPPED, WHOLE, dump};
+use trace_lines::dump::{CONFLICT, FAILED, NO_HEADER, STOPPED, WHOLE, dump};
 
 /// What became of a part of a recording.
-#[derive(Clone, Copy)]
+#[derive(Drop)]
 pub enum Outcome {
     /// The recording has no such part.
     Absent,
-    /// It was compared.
-    Compared,
-    /// It was left out: the library has nothing for what is named.
+    /// The library has nothing for what is named.
     LeftOut(&'static str),
+    /// It was compared. A text for each difference.
+    Compared(Vec<String>),
 }
 
 /// What a recording shows.
@@ -23,112 +28,111 @@ pub enum Outcome {
 pub struct Findings {
     pub script: Outcome,
     pub dump: Outcome,
-    /// A text for each difference.
-    pub differences: Vec<String>,
 }
 
 /// Plays the script of a recording and dumps its trace, and compares what comes of both with the recording.
 pub fn findings_of(alloc: Global, recording: Recording<'_>) -> Result<Findings, AllocError> {
-    let mut findings = Findings {
-        script: Outcome::Absent,
-        dump: Outcome::Absent,
-        differences: Vec::new(alloc),
-    };
     match hex::decode(alloc, recording.bytes) {
-        Ok(trace) => {
-            if let Some(calls) = recording.calls {
-                findings.script = compare_calls(alloc, calls, &trace, &mut findings.differences)?;
-            }
-            findings.dump = compare_dump(alloc, recording.dump, &trace, &mut findings.differences)?;
-        }
+        Ok(trace) => Ok(Findings {
+            script: script_outcome(alloc, recording.calls, &trace)?,
+            dump: dump_outcome(alloc, recording.dump, &trace)?,
+        }),
         Err(error) => {
             let note = format!(in alloc; "the recorded bytes cannot be read: {error}")?;
-            findings.differences.push(note)?;
+            Ok(Findings {
+                script: Outcome::Absent,
+                dump: Outcome::Compared(vec![in alloc; note]?),
+            })
         }
     }
-    Ok(findings)
 }
 
 // Plays a script, and compares the bytes and the replies.
-fn compare_calls(
+fn script_outcome(
     alloc: Global,
-    calls: Calls<'_>,
+    calls: Option<Calls<'_>>,
     trace: &[u8],
-    differences: &mut Vec<String>,
 ) -> Result<Outcome, AllocError> {
+    let Some(calls) = calls else {
+        return Ok(Outcome::Absent);
+    };
     let script = match script_of(alloc, calls.script.as_bytes()) {
         Ok(script) => script,
         Err(error) => {
-            differences.push(format!(in alloc; "the script cannot be read: {error}")?)?;
-            return Ok(Outcome::Compared);
+            let note = format!(in alloc; "the script cannot be read: {error}")?;
+            return Ok(Outcome::Compared(vec![in alloc; note]?));
         }
     };
     match play(alloc, &script) {
-        Ok(played) => compare_played(alloc, calls, trace, &played, differences)?,
-        Err(PlayError::LeftOut { call, .. }) => return Ok(Outcome::LeftOut(call)),
-        Err(error) => differences.push(format!(in alloc; "the script was not played: {error}")?)?,
+        Ok(played) => {
+            let notes = played_differences(alloc, calls.replies, trace, &played)?;
+            Ok(Outcome::Compared(notes))
+        }
+        Err(PlayError::LeftOut { call, .. }) => Ok(Outcome::LeftOut(call)),
+        Err(error) => {
+            let note = format!(in alloc; "the script was not played: {error}")?;
+            Ok(Outcome::Compared(vec![in alloc; note]?))
+        }
     }
-    Ok(Outcome::Compared)
 }
 
 // Compares the bytes and the replies.
-fn compare_played(
+fn played_differences(
     alloc: Global,
-    calls: Calls<'_>,
+    replies: &str,
     trace: &[u8],
     played: &Played,
-    differences: &mut Vec<String>,
-) -> Result<(), AllocError> {
-    if let Some(place) = first_difference(trace, &played.bytes) {
-        differences.push(format!(in alloc; "the bytes differ first at byte {place}")?)?;
+) -> Result<Vec<String>, AllocError> {
+    let mut differences = Vec::new(alloc);
+    if let Some(note) = bytes_difference(alloc, trace, &played.bytes)? {
+        differences.push(note)?;
     }
-    let replies = ended_lines(alloc, calls.replies)?;
-    let (recorded, found) = (replies.as_bytes(), played.replies.as_bytes());
-    if let Some(place) = first_difference(recorded, found) {
-        let note = line_note(alloc, recorded, found, place)?;
+    if let Some(note) = lines_difference(alloc, replies, played.replies.as_bytes())? {
         differences.push(format!(in alloc; "the replies differ: {note}")?)?;
     }
-    Ok(())
+    Ok(differences)
 }
 
 // Dumps a trace, and compares the lines and the status.
-fn compare_dump(
-    alloc: Global,
-    lines: &str,
-    trace: &[u8],
-    differences: &mut Vec<String>,
-) -> Result<Outcome, AllocError> {
-    if let Some(frame) = left_out(lines) {
-        return Ok(Outcome::LeftOut(frame));
+fn dump_outcome(alloc: Global, lines: &str, trace: &[u8]) -> Result<Outcome, AllocError> {
+    match left_out(lines) {
+        Some(frame) => Ok(Outcome::LeftOut(frame)),
+        None => Ok(Outcome::Compared(dump_differences(alloc, lines, trace)?)),
     }
-    let mut found = Vec::new(alloc);
-    let status = dump(alloc, trace, &mut found);
-    let expected = status_of(lines);
-    if status != expected {
-        differences.push(format!(in alloc; "the status of the dump is {status}, not {expected}")?)?;
-    }
-    let lines = ended_lines(alloc, lines)?;
-    if let Some(place) = first_difference(lines.as_bytes(), &found) {
-        let note = line_note(alloc, lines.as_bytes(), &found, place)?;
-        differences.push(format!(in alloc; "the dump differs: {note}")?)?;
-    }
-    Ok(Outcome::Compared)
 }
 
-// The first frame in the lines of a dump that the library does not read.
-fn left_out(lines: &str) -> Option<&'static str> {
-    for line in lines.lines() {
-        if line.starts_with("strings") {
-            return Some("strings");
-        }
-        if line.starts_with("stacks") {
-            return Some("stacks");
-        }
-        if line.starts_with("annotations") {
-            return Some("annotations");
-        }
+// Dumps a trace, and compares the lines and the status. Where nothing differs, the recorded lines are the dump.
+fn dump_differences(alloc: Global, lines: &str, trace: &[u8]) -> Result<Vec<String>, AllocError>
+    ensures { IfOk result (λ notes. notes.items ≡ [] → (status : ℕ) × IsDump trace.now status (ended lines.now)) }
+{
+    let mut differences = Vec::new(alloc);
+    let mut found = Vec::new(alloc);
+    let status = dump(alloc, trace, &mut found);
+    let recorded = status_of(lines);
+    if status != recorded || status == FAILED {
+        differences.push(format!(in alloc;
+            "the dump ends with status {status}, recorded as {recorded}"
+        )?)?;
     }
-    None
+    if let Some(note) = lines_difference(alloc, lines, &found)? {
+        differences.push(format!(in alloc; "the dump differs: {note}")?)?;
+    }
+    Ok(differences)
+}
+
+// The first of these frames that the lines of a dump have, none of which the library reads.
+fn left_out(lines: &str) -> Option<&'static str>
+    ensures { IfSome result (λ frame. HasLine lines.now frame.now) }
+{
+    if lines.contains("\nstrings") {
+        Some("strings")
+    } else if lines.contains("\nstacks") {
+        Some("stacks")
+    } else if lines.contains("\nannotations") {
+        Some("annotations")
+    } else {
+        None
+    }
 }
 
 // The status of a dump with these lines.
@@ -142,13 +146,4 @@ fn status_of(lines: &str) -> u8 {
     } else {
         STOPPED
     }
-}
-
-// Lines with the line feed that ends the last, where there is one.
-fn ended_lines(alloc: Global, lines: &str) -> Result<String, AllocError> {
-    let mut ended = String::from_str(alloc, lines)?;
-    if !lines.is_empty() {
-        ended.push('\n')?;
-    }
-    Ok(ended)
 }

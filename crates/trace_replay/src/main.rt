@@ -10,13 +10,13 @@ mod recording;
 mod script;
 mod tally;
 
-use crate::findings::findings_of;
+use crate::findings::{Outcome, findings_of};
 use crate::player::play;
 use crate::recording::recordings_of;
 use crate::script::script_of;
 use crate::tally::Tally;
 use anyhow::{Context, Result};
-use std::io::{Read, Write};
+use std::io::{ErrorKind, Read, Write};
 use std::process::ExitCode;
 use std::rt::{Env, Files};
 use std::{env, fs, io};
@@ -42,15 +42,34 @@ fn main(rt: HostRuntime) -> ExitCode {
 }
 
 fn run(rt: &(impl AllocGlobal + Env + Files + Input + Print + Eprint)) -> Result<u8> {
-    let arguments = env::args(rt)?;
-    let words: Vec<String> = arguments.skip(1).collect(rt.alloc())?;
-    match words.as_slice() {
-        [] => replay_sets(rt),
-        [word] if word.as_str() == "-" => play_input(rt),
-        _ => {
+    match task_of_arguments(rt)? {
+        Task::ReplaySets => replay_sets(rt),
+        Task::PlayInput => play_input(rt),
+        Task::Unknown => {
             eprintln!(rt; "usage: trace_replay [-]")?;
             Ok(UNREADABLE)
         }
+    }
+}
+
+/// What the arguments ask for.
+enum Task {
+    ReplaySets,
+    PlayInput,
+    Unknown,
+}
+
+fn task_of_arguments(rt: &(impl AllocGlobal + Env)) -> io::Result<Task> {
+    let arguments = match env::args(rt) {
+        Ok(arguments) => arguments,
+        Err(error) if error.kind() == ErrorKind::InvalidData => return Ok(Task::Unknown),
+        Err(error) => return Err(error),
+    };
+    let words: Vec<String> = arguments.skip(1).collect(rt.alloc())?;
+    match words.as_slice() {
+        [] => Ok(Task::ReplaySets),
+        [word] if word.as_str() == "-" => Ok(Task::PlayInput),
+        _ => Ok(Task::Unknown),
     }
 }
 
@@ -74,18 +93,22 @@ fn replay_set(rt: &(impl AllocGlobal + Files + Print), set: &str) -> Result<bool
     let mut tally = Tally::new(alloc);
     for recording in &recordings {
         let findings = findings_of(alloc, *recording)?;
-        for difference in &findings.differences {
-            print_difference(rt, set, recording.name, difference.as_str())?;
-        }
+        print_differences(rt, set, recording.name, &findings.script)?;
+        print_differences(rt, set, recording.name, &findings.dump)?;
         tally.add(&findings)?;
     }
     println!(rt; "{set}: {tally}")?;
     Ok(tally.differs())
 }
 
-/// Prints what differs in a recording of a set.
-fn print_difference(rt: &impl Print, set: &str, name: &str, difference: &str) -> io::Result<()> {
-    println!(rt; "{set} {name}: {difference}")
+/// Prints each difference in a part of a recording.
+fn print_differences(rt: &impl Print, set: &str, name: &str, outcome: &Outcome) -> io::Result<()> {
+    if let Outcome::Compared(differences) = outcome {
+        for difference in differences {
+            println!(rt; "{set} {name}: {difference}")?;
+        }
+    }
+    Ok(())
 }
 
 /// Plays the script on standard input, writes the trace to standard output and the replies to standard error.

@@ -1,6 +1,6 @@
 //! Plays the calls of a script on an encoder.
 
-use crate::script::{Call, CallLine, Definition, Script};
+use crate::script::{Call, Definition};
 use std::alloc::{AllocError, AllocFailed, Global};
 use thiserror::Error;
 use trace_values::leb128::EncodeError;
@@ -41,19 +41,20 @@ impl<T: Drop> From<AllocFailed<T>> for PlayError {
     }
 }
 
-/// Makes the calls of a script, in their order. A script with a call that the library has not is not begun.
-pub fn play(alloc: Global, script: &Script) -> Result<Played, PlayError> {
-    for line in &script.lines {
-        if let Some(call) = left_out(&line.call) {
+/// Makes the calls of a script, in their order, each of which stands in the line of its place. A script with a call that the
+/// library has not is not begun.
+pub fn play(alloc: Global, script: &[Call]) -> Result<Played, PlayError> {
+    for (before, call) in script.iter().enumerate() {
+        if let Some(name) = left_out(call) {
             return Err(PlayError::LeftOut {
-                line: line.number,
-                call,
+                line: before.saturating_add(1),
+                call: name,
             });
         }
     }
     let mut player = Player::new(alloc)?;
-    for line in &script.lines {
-        player.make(line)?;
+    for (before, call) in script.iter().enumerate() {
+        player.make(before.saturating_add(1), call)?;
     }
     let Player {
         alloc: _,
@@ -71,7 +72,8 @@ fn left_out(call: &Call) -> Option<&'static str> {
         Call::Define { definition, .. } if !definition.annotations.is_empty() => Some(
             "annotations",
         ),
-        Call::Define { .. }
+        Call::Nothing
+        | Call::Define { .. }
         | Call::Register { .. }
         | Call::Event { .. }
         | Call::Raw { .. }
@@ -115,8 +117,11 @@ impl Player {
     }
 
     // Makes the call of a line, and notes its reply.
-    fn make(&mut self, line: &CallLine) -> Result<(), PlayError> {
-        let reply = self.reply_to(line)?;
+    fn make(&mut self, line: usize, call: &Call) -> Result<(), PlayError> {
+        if let Call::Nothing = call {
+            return Ok(());
+        }
+        let reply = self.reply_to(line, call)?;
         self.take_written()?;
         push_reply(
             &mut self.played.replies,
@@ -127,8 +132,9 @@ impl Player {
     }
 
     // Makes the call of a line, and answers the encoder's reply where the encoder was called.
-    fn reply_to(&mut self, line: &CallLine) -> Result<Option<Reply>, PlayError> {
-        match &line.call {
+    fn reply_to(&mut self, line: usize, call: &Call) -> Result<Option<Reply>, PlayError> {
+        match call {
+            Call::Nothing => Ok(None),
             Call::Define { handle, definition } => {
                 let schema = schema_of(self.alloc, definition)?;
                 self.schemas.push(Defined {
@@ -138,7 +144,7 @@ impl Player {
                 Ok(None)
             }
             Call::Register { handle } => {
-                let schema = schema_at(&self.schemas, line.number, *handle)?;
+                let schema = schema_at(&self.schemas, line, *handle)?;
                 Ok(Some(match self.encoder.register_existing(schema) {
                     Ok(id) => Reply::WireId(id),
                     Err(error) => Reply::Refused(error),
@@ -149,7 +155,7 @@ impl Player {
                 time,
                 values,
             } => {
-                let schema = schema_at(&self.schemas, line.number, *handle)?;
+                let schema = schema_at(&self.schemas, line, *handle)?;
                 Ok(Some(match self.encoder.write_event(schema, *time, values) {
                     Ok(()) => Reply::Done,
                     Err(error) => Reply::Refused(error),
@@ -164,7 +170,7 @@ impl Player {
                 Ok(None)
             }
             other => Err(PlayError::LeftOut {
-                line: line.number,
+                line,
                 call: other.name(),
             }),
         }

@@ -10,13 +10,13 @@ pub struct Tally {
     recordings: u64,
     scripts: Parts,
     dumps: Parts,
-    differences: u64,
 }
 
 // How many parts of one kind were compared, and how many were left out, by the name of what the library has not.
 #[derive(Drop)]
 struct Parts {
     compared: u64,
+    differences: u64,
     left_out: Vec<LeftOut>,
 }
 
@@ -33,24 +33,20 @@ impl Tally {
             recordings: 0,
             scripts: Parts::new(alloc),
             dumps: Parts::new(alloc),
-            differences: 0,
         }
     }
 
     /// Counts a recording.
     pub fn add(&mut self, findings: &Findings) -> Result<(), AllocError> {
-        self.scripts.add(findings.script)?;
-        self.dumps.add(findings.dump)?;
+        self.scripts.add(&findings.script)?;
+        self.dumps.add(&findings.dump)?;
         self.recordings = self.recordings.saturating_add(1);
-        self.differences = self
-            .differences
-            .saturating_add(findings.differences.len() as u64);
         Ok(())
     }
 
     /// Whether a recording differs.
     pub fn differs(&self) -> bool {
-        self.differences > 0
+        self.scripts.differences > 0 || self.dumps.differences > 0
     }
 }
 
@@ -58,15 +54,19 @@ impl Parts {
     fn new(alloc: Global) -> Parts {
         Parts {
             compared: 0,
+            differences: 0,
             left_out: Vec::new(alloc),
         }
     }
 
-    fn add(&mut self, outcome: Outcome) -> Result<(), AllocError> {
+    fn add(&mut self, outcome: &Outcome) -> Result<(), AllocError> {
         match outcome {
             Outcome::Absent => {}
-            Outcome::Compared => self.compared = self.compared.saturating_add(1),
             Outcome::LeftOut(name) => leave_out(&mut self.left_out, name)?,
+            Outcome::Compared(differences) => {
+                self.compared = self.compared.saturating_add(1);
+                self.differences = self.differences.saturating_add(differences.len() as u64);
+            }
         }
         Ok(())
     }
@@ -103,7 +103,7 @@ impl fmt::Display for Tally {
         let recordings = self.recordings;
         let scripts = &self.scripts;
         let dumps = &self.dumps;
-        let differences = self.differences;
+        let differences = scripts.differences.saturating_add(dumps.differences);
         write!(
             f,
             "{recordings} recordings; scripts: {scripts}; dumps: {dumps}; {differences} differ"

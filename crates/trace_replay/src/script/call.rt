@@ -8,6 +8,8 @@ use trace_values::types::FieldValue;
 /// or for a type of events. Times are in nanoseconds.
 #[derive(Drop)]
 pub enum Call {
+    /// Nothing: the line is empty, or begins with `#`.
+    Nothing,
     /// Makes a schema.
     Define {
         handle: u64,
@@ -64,9 +66,10 @@ pub enum Call {
 }
 
 impl Call {
-    /// The word by which a line of the call begins.
+    /// The word by which a line of the call begins, and nothing where the line asks for nothing.
     pub fn name(&self) -> &'static str {
         match self {
+            Call::Nothing => "",
             Call::Define { .. } => "define",
             Call::Register { .. } => "register",
             Call::Event { .. } => "event",

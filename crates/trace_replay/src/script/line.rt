@@ -14,11 +14,12 @@ use crate::script::pools::{pool_stacks, pool_texts};
 use std::alloc::Global;
 use trace_values::types::FieldValue;
 
-/// Reads the call of a line that is not silent.
+/// Reads what a line asks for.
 pub fn call_of(alloc: Global, line: &[u8]) -> Result<Call, Fault>
     ensures { IfOk result (λ call. Says call line.now) }
 {
     match line {
+        [] | [b'#', ..] => return Ok(Call::Nothing),
         b"reset" => return Ok(Call::Reset),
         b"resume" => return Ok(Call::Resume),
         b"bare" => return Ok(Call::Bare),
