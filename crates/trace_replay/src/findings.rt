@@ -4,6 +4,7 @@ ghost use Rattle.std.specs.Prelude.{◌≡◌, [], Ok, List, ℕ, IfOk, IfSome, 
 ghost use Rattle.hex.specs.Hex.{decode_of};
 ghost use Rattle.trace_lines.specs.Dumps.{IsDump};
 ghost use Rattle.trace_replay.specs.Comparisons.{ended, HasLine};
+ghost use Rattle.trace_replay.specs.Findings.{ShowsDump};
 
 use crate::compare::{bytes_difference, lines_difference};
 use crate::player::{PlayError, Played, play};
@@ -31,7 +32,9 @@ pub struct Findings {
 }
 
 /// Plays the script of a recording and dumps its trace, and compares what comes of both with the recording.
-pub fn findings_of(alloc: Global, recording: Recording<'_>) -> Result<Findings, AllocError> {
+pub fn findings_of(alloc: Global, recording: Recording<'_>) -> Result<Findings, AllocError>
+    ensures { IfOk result (λ findings. (trace : List ℕ) → decode_of recording.entry.bytes.now ≡ Ok trace → ShowsDump trace recording.entry.dump.now findings.dump) }
+{
     match hex::decode(alloc, recording.bytes) {
         Ok(trace) => Ok(Findings {
             script: script_outcome(alloc, recording.calls, &trace)?,
@@ -94,7 +97,9 @@ fn played_differences(
 }
 
 // Dumps a trace, and compares the lines and the status.
-fn dump_outcome(alloc: Global, lines: &str, trace: &[u8]) -> Result<Outcome, AllocError> {
+fn dump_outcome(alloc: Global, lines: &str, trace: &[u8]) -> Result<Outcome, AllocError>
+    ensures { IfOk result (ShowsDump trace.now lines.now) }
+{
     match left_out(lines) {
         Some(frame) => Ok(Outcome::LeftOut(frame)),
         None => Ok(Outcome::Compared(dump_differences(alloc, lines, trace)?)),
