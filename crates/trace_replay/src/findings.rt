@@ -9,7 +9,6 @@ ghost use Rattle.trace_replay.specs.Findings.{ShowsDump};
 use crate::compare::{bytes_difference, lines_difference};
 use crate::player::{PlayError, Played, play};
 use crate::recording::{Calls, Recording};
-use crate::script::script_of;
 use std::alloc::{AllocError, Global};
 use trace_lines::dump::{CONFLICT, FAILED, NO_HEADER, STOPPED, WHOLE, dump};
 
@@ -59,14 +58,7 @@ fn script_outcome(
     let Some(calls) = calls else {
         return Ok(Outcome::Absent);
     };
-    let script = match script_of(alloc, calls.script.as_bytes()) {
-        Ok(script) => script,
-        Err(error) => {
-            let note = format!(in alloc; "the script cannot be read: {error}")?;
-            return Ok(Outcome::Compared(vec![in alloc; note]?));
-        }
-    };
-    match play(alloc, &script) {
+    match play(alloc, calls.script.as_bytes()) {
         Ok(played) => {
             let notes = played_differences(alloc, calls.replies, trace, &played)?;
             Ok(Outcome::Compared(notes))

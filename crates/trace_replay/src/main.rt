@@ -13,9 +13,8 @@ mod tally;
 use crate::findings::{Outcome, findings_of};
 use crate::player::play;
 use crate::recording::recordings_of;
-use crate::script::script_of;
 use crate::tally::Tally;
-use anyhow::{Context, Result};
+use anyhow::Context;
 use std::io::{ErrorKind, Read, Write};
 use std::process::ExitCode;
 use std::rt::{Env, Files};
@@ -41,7 +40,7 @@ fn main(rt: HostRuntime) -> ExitCode {
     }
 }
 
-fn run(rt: &(impl AllocGlobal + Env + Files + Input + Print + Eprint)) -> Result<u8> {
+fn run(rt: &(impl AllocGlobal + Env + Files + Input + Print + Eprint)) -> anyhow::Result<u8> {
     match task_of_arguments(rt)? {
         Task::ReplaySets => replay_sets(rt),
         Task::PlayInput => play_input(rt),
@@ -74,7 +73,7 @@ fn task_of_arguments(rt: &(impl AllocGlobal + Env)) -> io::Result<Task> {
 }
 
 /// Compares each set of recordings with what the library makes of it.
-fn replay_sets(rt: &(impl AllocGlobal + Files + Print)) -> Result<u8> {
+fn replay_sets(rt: &(impl AllocGlobal + Files + Print)) -> anyhow::Result<u8> {
     let mut status = GOOD;
     for set in SETS {
         if replay_set(rt, set)? {
@@ -85,7 +84,7 @@ fn replay_sets(rt: &(impl AllocGlobal + Files + Print)) -> Result<u8> {
 }
 
 /// Compares a set of recordings, prints each difference and then the counts, and answers whether something differs.
-fn replay_set(rt: &(impl AllocGlobal + Files + Print), set: &str) -> Result<bool> {
+fn replay_set(rt: &(impl AllocGlobal + Files + Print), set: &str) -> anyhow::Result<bool> {
     let alloc = rt.alloc();
     let name = format!(in alloc; "{set}.txt")?;
     let file = fs::read_to_string(rt, name.as_str()).context(format_args!("reading {name}"))?;
@@ -112,18 +111,11 @@ fn print_differences(rt: &impl Print, set: &str, name: &str, outcome: &Outcome) 
 }
 
 /// Plays the script on standard input, writes the trace to standard output and the replies to standard error.
-fn play_input(rt: &(impl AllocGlobal + Input + Print + Eprint)) -> Result<u8> {
+fn play_input(rt: &(impl AllocGlobal + Input + Print + Eprint)) -> anyhow::Result<u8> {
     let alloc = rt.alloc();
     let mut text = Vec::new(alloc);
     rt.reader().read_to_end(&mut text)?;
-    let script = match script_of(alloc, &text) {
-        Ok(script) => script,
-        Err(error) => {
-            eprintln!(rt; "{error}")?;
-            return Ok(UNREADABLE);
-        }
-    };
-    match play(alloc, &script) {
+    match play(alloc, &text) {
         Ok(played) => {
             io::writer(rt).write_all(&played.bytes)?;
             eprint!(rt; "{}", played.replies)?;
@@ -131,7 +123,11 @@ fn play_input(rt: &(impl AllocGlobal + Input + Print + Eprint)) -> Result<u8> {
         }
         Err(error) => {
             eprintln!(rt; "{error}")?;
-            Ok(UNREADABLE)
+            Ok(if error.is_of_script() {
+                UNREADABLE
+            } else {
+                BAD
+            })
         }
     }
 }

@@ -1,6 +1,6 @@
 //! Plays the calls of a script on an encoder.
 
-use crate::script::{Call, Definition};
+use crate::script::{Call, Definition, Fault, ScriptError, script_of};
 use std::alloc::{AllocError, AllocFailed, Global};
 use thiserror::Error;
 use trace_values::leb128::EncodeError;
@@ -19,6 +19,8 @@ pub struct Played {
 /// Why a script was not played to its end. Lines count from 1.
 #[derive(Debug, Drop, Error)]
 pub enum PlayError {
+    #[error("{0}")]
+    Script(ScriptError),
     #[error("line {line}: the library has no call for `{call}` yet")]
     LeftOut { line: usize, call: &'static str },
     #[error("line {line}: no schema has the handle {handle}")]
@@ -27,6 +29,23 @@ pub enum PlayError {
     Encoder(EncodeError),
     #[error("out of memory")]
     Memory,
+}
+
+impl PlayError {
+    /// Whether the script is at fault, and not want of memory.
+    pub fn is_of_script(&self) -> bool {
+        match self {
+            PlayError::Script(error) => error.fault != Fault::Memory,
+            PlayError::LeftOut { .. } | PlayError::Unknown { .. } => true,
+            PlayError::Encoder(_) | PlayError::Memory => false,
+        }
+    }
+}
+
+impl From<ScriptError> for PlayError {
+    fn from(error: ScriptError) -> PlayError {
+        PlayError::Script(error)
+    }
 }
 
 impl From<AllocError> for PlayError {
@@ -41,17 +60,10 @@ impl<T: Drop> From<AllocFailed<T>> for PlayError {
     }
 }
 
-/// Makes the calls of a script, in their order, each of which stands in the line of its place. A script with a call that the
-/// library has not is not begun.
-pub fn play(alloc: Global, script: &[Call]) -> Result<Played, PlayError> {
-    for (before, call) in script.iter().enumerate() {
-        if let Some(name) = left_out(call) {
-            return Err(PlayError::LeftOut {
-                line: before.saturating_add(1),
-                call: name,
-            });
-        }
-    }
+/// Reads a script, and makes its calls in their order. A script with a call that the library has not is not begun.
+pub fn play(alloc: Global, text: &[u8]) -> Result<Played, PlayError> {
+    let script = script_of(alloc, text)?;
+    admit(&script)?;
     let mut player = Player::new(alloc)?;
     for (before, call) in script.iter().enumerate() {
         player.make(before.saturating_add(1), call)?;
@@ -64,6 +76,19 @@ pub fn play(alloc: Global, script: &[Call]) -> Result<Played, PlayError> {
         played,
     } = player;
     Ok(played)
+}
+
+// Refuses a script with a call that the library has not.
+fn admit(script: &[Call]) -> Result<(), PlayError> {
+    for (before, call) in script.iter().enumerate() {
+        if let Some(name) = left_out(call) {
+            return Err(PlayError::LeftOut {
+                line: before.saturating_add(1),
+                call: name,
+            });
+        }
+    }
+    Ok(())
 }
 
 // By what name to count a call that the library has not.
