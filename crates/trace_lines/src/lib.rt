@@ -4,5 +4,5 @@
 pub mod dump;
 mod entries;
 mod lines;
-mod text;
-mod value;
+pub mod text;
+pub mod value;
