@@ -1,9 +1,9 @@
 //! What a recording shows of the library.
 
-ghost use Rattle.std.specs.Prelude.{◌≡◌, [], Ok, List, ℕ, IfOk, IfSome, IsNone};
+ghost use Rattle.std.specs.Prelude.{◌≡◌, [], Ok, List, ℕ, IfOk};
 ghost use Rattle.hex.specs.Hex.{decode_of};
 ghost use Rattle.trace_lines.specs.Dumps.{IsDump};
-ghost use Rattle.trace_replay.specs.Comparisons.{ended, HasLine};
+ghost use Rattle.trace_replay.specs.Comparisons.{ended};
 ghost use Rattle.trace_replay.specs.Findings.{ShowsDump};
 
 use crate::compare::{bytes_difference, lines_difference};
@@ -92,10 +92,7 @@ fn played_differences(
 fn dump_outcome(alloc: Global, lines: &str, trace: &[u8]) -> Result<Outcome, AllocError>
     ensures { IfOk result (ShowsDump trace.now lines.now) }
 {
-    match left_out(lines) {
-        Some(frame) => Ok(Outcome::LeftOut(frame)),
-        None => Ok(Outcome::Compared(dump_differences(alloc, lines, trace)?)),
-    }
+    Ok(Outcome::Compared(dump_differences(alloc, lines, trace)?))
 }
 
 // Dumps a trace, and compares the lines and the status. Where nothing differs, the recorded lines are the dump.
@@ -115,21 +112,6 @@ fn dump_differences(alloc: Global, lines: &str, trace: &[u8]) -> Result<Vec<Stri
         differences.push(format!(in alloc; "the dump differs: {note}")?)?;
     }
     Ok(differences)
-}
-
-// The first of these frames that the lines of a dump have, none of which the library reads.
-fn left_out(lines: &str) -> Option<&'static str>
-    ensures { IfSome result (λ frame. HasLine lines.now frame.now) }
-{
-    if lines.contains("\nstrings") {
-        Some("strings")
-    } else if lines.contains("\nstacks") {
-        Some("stacks")
-    } else if lines.contains("\nannotations") {
-        Some("annotations")
-    } else {
-        None
-    }
 }
 
 // The status of a dump with these lines.

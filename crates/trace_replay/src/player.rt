@@ -1,10 +1,11 @@
 //! Plays the calls of a script on an encoder.
 
-use crate::script::{Call, Definition, Fault, ScriptError, script_of};
+use crate::script::{Call, Definition, Fault, PoolStack, PoolText, ScriptError, script_of};
 use std::alloc::{AllocError, AllocFailed, Global};
 use thiserror::Error;
 use trace_values::leb128::EncodeError;
-use trace_wire::schema::FieldDef;
+use trace_wire::codec::{PoolEntry, StackPoolEntry};
+use trace_wire::schema::{FieldAnnotation, SchemaEntry};
 use trace_writer::encoder::{Encoder, Reply, Schema};
 
 /// What the calls of a script made.
@@ -94,16 +95,10 @@ fn admit(script: &[Call]) -> Result<(), PlayError> {
 // By what name to count a call that the library has not.
 fn left_out(call: &Call) -> Option<&'static str> {
     match call {
-        Call::Define { definition, .. } if !definition.annotations.is_empty() => Some(
-            "annotations",
-        ),
-        Call::Nothing
-        | Call::Define { .. }
-        | Call::Register { .. }
-        | Call::Event { .. }
-        | Call::Raw { .. }
-        | Call::Bare => None,
-        other => Some(other.name()),
+        Call::DefineType { .. } | Call::WriteTyped { .. } | Call::Reset | Call::Resume => {
+            Some(call.name())
+        }
+        _ => None,
     }
 }
 
@@ -181,10 +176,25 @@ impl Player {
                 values,
             } => {
                 let schema = schema_at(&self.schemas, line, *handle)?;
-                Ok(Some(match self.encoder.write_event(schema, *time, values) {
-                    Ok(()) => Reply::Done,
+                Ok(Some(done(self.encoder.write_event(schema, *time, values))))
+            }
+            Call::InternString { text } => Ok(Some(match self.encoder.intern_string(text) {
+                Ok(id) => Reply::Text(id),
+                Err(error) => Reply::Refused(error),
+            })),
+            Call::InternStack { frames } => Ok(Some(
+                match self.encoder.intern_stack_frames(frames) {
+                    Ok(id) => Reply::Stack(id),
                     Err(error) => Reply::Refused(error),
-                }))
+                },
+            )),
+            Call::StringPool { entries } => {
+                let entries = pool_of(self.alloc, entries)?;
+                Ok(Some(done(self.encoder.write_string_pool(&entries))))
+            }
+            Call::StackPool { entries } => {
+                let entries = stack_pool_of(self.alloc, entries)?;
+                Ok(Some(done(self.encoder.write_stack_pool(&entries))))
             }
             Call::Raw { bytes } => {
                 self.played.bytes.extend_from_slice(bytes)?;
@@ -212,13 +222,52 @@ impl Player {
     }
 }
 
+// The reply of a call that answers nothing else.
+fn done(answer: Result<(), EncodeError>) -> Reply {
+    match answer {
+        Ok(()) => Reply::Done,
+        Err(error) => Reply::Refused(error),
+    }
+}
+
 // The schema that a definition says.
 fn schema_of(alloc: Global, definition: &Definition) -> Result<Schema, AllocError> {
-    let mut fields = Vec::new(alloc);
-    for field in &definition.fields {
-        fields.push(FieldDef::clone(field, alloc)?)?;
+    let mut annotations = Vec::new(alloc);
+    for annotation in &definition.annotations {
+        annotations.push(FieldAnnotation::new(
+            alloc,
+            annotation.index,
+            &annotation.key,
+            &annotation.value,
+        )?)?;
     }
-    Schema::new(alloc, definition.name.as_str(), fields)
+    let name = definition.name.as_str();
+    let entry = SchemaEntry::with_annotations(alloc, name, &definition.fields, &annotations)?;
+    Schema::from_entry(alloc, entry)
+}
+
+// The entries of a string pool.
+fn pool_of(alloc: Global, texts: &[PoolText]) -> Result<Vec<PoolEntry>, AllocError> {
+    let mut entries = Vec::new(alloc);
+    for text in texts {
+        entries.push(PoolEntry {
+            pool_id: text.id,
+            bytes: Vec::from_slice(alloc, &text.bytes)?,
+        })?;
+    }
+    Ok(entries)
+}
+
+// The entries of a stack pool.
+fn stack_pool_of(alloc: Global, stacks: &[PoolStack]) -> Result<Vec<StackPoolEntry>, AllocError> {
+    let mut entries = Vec::new(alloc);
+    for stack in stacks {
+        entries.push(StackPoolEntry {
+            pool_id: stack.id,
+            frames: Vec::from_slice(alloc, &stack.frames)?,
+        })?;
+    }
+    Ok(entries)
 }
 
 // The schema that was defined last under a handle.
@@ -238,6 +287,8 @@ fn push_reply(out: &mut String, reply: Option<Reply>, written: u64) -> Result<()
             let id = id.0;
             write!(out, "wire {id}")?;
         }
+        Some(Reply::Text(id)) => write!(out, "{id:?}")?,
+        Some(Reply::Stack(id)) => write!(out, "{id:?}")?,
         Some(Reply::Refused(error)) => push_refusal(out, error)?,
     }
     writeln!(out, " bytes={written}")

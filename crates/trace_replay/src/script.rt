@@ -16,6 +16,7 @@ pub use call::Call;
 pub use definitions::Definition;
 pub use fault::Fault;
 use line::call_of;
+pub use pools::{PoolStack, PoolText};
 use std::alloc::Global;
 use thiserror::Error;
 
