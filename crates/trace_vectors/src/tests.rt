@@ -1,5 +1,7 @@
 //! Worked examples of the format.
 
+mod dumps;
+mod example;
 mod fields;
 mod iterators;
 mod numbers;

@@ -2,11 +2,10 @@
 //! holds to standard output.
 #![tactic(auto)]
 
-use std::env;
-use std::io;
 use std::io::{ErrorKind, Read};
 use std::process::ExitCode;
 use std::rt::Env;
+use std::{env, io};
 use trace_lines::dump::{FAILED, dump};
 use trace_values::leb128::Plain;
 

@@ -14,11 +14,13 @@ fn last_values(alloc: Global, bytes: &[u8]) -> Result<Vec<FieldValue>, Fail> {
     let mut decoder = Decoder::new(alloc, bytes).ok_or("no header")?;
     let mut frames = decoder.decode_all()?;
     match frames.pop() {
-        Some(DecodedFrame::Event {
-            type_id: _,
-            timestamp_ns: _,
-            values,
-        }) => Ok(values),
+        Some(
+            DecodedFrame::Event {
+                type_id: _,
+                timestamp_ns: _,
+                values,
+            },
+        ) => Ok(values),
         _ => Err(Fail::from("no event")),
     }
 }
@@ -31,10 +33,19 @@ fn numbers_of_two_bytes(rt: HostRuntime) -> Result<(), Fail> {
     encoder.write_event(&schema, 0, &[FieldValue::Varint(300)])?;
     assert_eq!(rt; encoder.bytes_written(), 26);
     let event = [0x02, 0x00, 0x01, 0x00, 0x00, 0x00, 0x2C, 0x01];
-    assert_eq!(rt; encoder.as_inner().as_slice().get(18..), Some(event.as_slice()));
+    assert_eq!(rt;
+        encoder.as_inner().as_slice().get(18..),
+        Some(event.as_slice())
+    );
     let misfit = Err(EncodeError::Misfit { field: 0 });
-    assert_eq!(rt; encoder.write_event(&schema, 0, &[FieldValue::Varint(65_536)]), misfit);
-    assert_eq!(rt; encoder.write_event(&schema, 0, &[FieldValue::Bool(true)]), misfit);
+    assert_eq!(rt;
+        encoder.write_event(&schema, 0, &[FieldValue::Varint(65_536)]),
+        misfit
+    );
+    assert_eq!(rt;
+        encoder.write_event(&schema, 0, &[FieldValue::Bool(true)]),
+        misfit
+    );
     assert_eq!(rt; encoder.bytes_written(), 26);
     let values = last_values(alloc, encoder.finish().as_slice())?;
     assert_eq!(rt; values.len(), 1);
@@ -53,7 +64,10 @@ fn optional_fields(rt: HostRuntime) -> Result<(), Fail> {
         0x02, 0x00, 0x01, 0x00, 0x00, 0x00, 0x00, 0x02, 0x00, 0x01, 0x00, 0x00, 0x00, 0x01, 0x07,
     ];
     assert_eq!(rt; encoder.as_inner().as_slice().get(17), Some(&0x8B));
-    assert_eq!(rt; encoder.as_inner().as_slice().get(18..), Some(events.as_slice()));
+    assert_eq!(rt;
+        encoder.as_inner().as_slice().get(18..),
+        Some(events.as_slice())
+    );
     let mut bytes = encoder.finish();
     bytes.extend_from_slice(&[0x02, 0x00, 0x01, 0x00, 0x00, 0x00, 0x02, 0x07])?;
     let values = last_values(alloc, bytes.as_slice())?;

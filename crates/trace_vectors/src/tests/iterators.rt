@@ -1,6 +1,8 @@
 //! Iterators over parts of the input.
 
-use dial9_trace_format::types::{FieldType, FieldValue, FieldValueRef, StackFrameIter, StringMapIter};
+use dial9_trace_format::types::{
+    FieldType, FieldValue, FieldValueRef, StackFrameIter, StringMapIter,
+};
 use std::test::Fail;
 
 #[test]
@@ -48,8 +50,9 @@ fn pairs_that_are_no_text(rt: HostRuntime) -> Result<(), Fail> {
         }
         _ => assert!(rt; false, "no map of texts"),
     }
-    let (borrowed, _) =
-        FieldValueRef::decode(alloc, FieldType::StringMap, &bytes, 0)?.ok_or("no value")?;
+    let (borrowed, _) = FieldValueRef::decode(alloc, FieldType::StringMap, &bytes, 0)?.ok_or(
+        "no value",
+    )?;
     assert!(rt; borrowed.to_owned(alloc)? == FieldValue::StringMap(Vec::new(alloc)));
     Ok(())
 }

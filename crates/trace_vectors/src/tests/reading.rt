@@ -1,8 +1,8 @@
 //! What a decoder gives.
 
 use crate::tests::traces::{EV_SCHEMA, HEADER, ONE_EVENT, written};
-use dial9_trace_format::decoder::{DecodeErrorKind, DecodedFrame, Decoder};
 use dial9_trace_format::codec::WireTypeId;
+use dial9_trace_format::decoder::{DecodeErrorKind, DecodedFrame, Decoder};
 use dial9_trace_format::types::{FieldType, FieldValue};
 use std::process::Abort;
 use std::test::Fail;
@@ -104,7 +104,12 @@ fn every_cut_of_one_event(rt: HostRuntime) -> Result<(), Fail> {
 
 #[test]
 fn times_come_back(rt: HostRuntime) -> Result<(), Fail> {
-    let events = [(100_000, 1), (50_000, 2), (200_000_000, 3), (100_000_000, 4)];
+    let events = [
+        (100_000, 1),
+        (50_000, 2),
+        (200_000_000, 3),
+        (100_000_000, 4),
+    ];
     let bytes = written(rt.alloc(), "TS", &events)?;
     let mut decoder = Decoder::new(rt.alloc(), bytes.as_slice()).ok_or("no header")?;
     let frames = decoder.decode_all()?;

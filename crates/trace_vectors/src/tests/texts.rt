@@ -1,17 +1,26 @@
 //! The texts of faults.
 
+use dial9_trace_format::codec::WireTypeId;
 use dial9_trace_format::decoder::{DecodeError, DecodeErrorKind};
 use dial9_trace_format::leb128::EncodeError;
-use dial9_trace_format::codec::WireTypeId;
 use std::io::ErrorKind;
 use std::test::Fail;
 
 #[test]
 fn faults_of_encoding(rt: HostRuntime) -> Result<(), Fail> {
     let cases = [
-        (EncodeError::Conflict, "schema already registered with different definition"),
-        (EncodeError::ValueCount, "value count does not match schema field count"),
-        (EncodeError::Misfit { field: 3 }, "value of field 3 does not fit its type"),
+        (
+            EncodeError::Conflict,
+            "schema already registered with different definition",
+        ),
+        (
+            EncodeError::ValueCount,
+            "value count does not match schema field count",
+        ),
+        (
+            EncodeError::Misfit { field: 3 },
+            "value of field 3 does not fit its type",
+        ),
         (EncodeError::TooLong, "length exceeds its width on the wire"),
         (EncodeError::IdsUsedUp, "no id is left"),
         (EncodeError::SlotTaken, "slot is held by another schema"),
@@ -31,14 +40,26 @@ fn faults_of_encoding(rt: HostRuntime) -> Result<(), Fail> {
 fn faults_of_decoding(rt: HostRuntime) -> Result<(), Fail> {
     let cases = [
         (DecodeErrorKind::TruncatedEvent, "truncated event frame"),
-        (DecodeErrorKind::UnknownTypeId(WireTypeId(7)), "unknown type_id WireTypeId(7)"),
+        (
+            DecodeErrorKind::UnknownTypeId(WireTypeId(7)),
+            "unknown type_id WireTypeId(7)",
+        ),
         (DecodeErrorKind::TruncatedDelta, "truncated timestamp delta"),
         (DecodeErrorKind::TimestampOverflow, "timestamp overflow"),
-        (DecodeErrorKind::TruncatedPrefix, "truncated optional field prefix"),
-        (DecodeErrorKind::TruncatedOptional, "truncated optional field value"),
+        (
+            DecodeErrorKind::TruncatedPrefix,
+            "truncated optional field prefix",
+        ),
+        (
+            DecodeErrorKind::TruncatedOptional,
+            "truncated optional field value",
+        ),
         (DecodeErrorKind::TruncatedValue, "truncated field value"),
         (DecodeErrorKind::TruncatedReset, "truncated timestamp reset"),
-        (DecodeErrorKind::NoFrame(0x0A), "failed to decode frame with tag 0x0a"),
+        (
+            DecodeErrorKind::NoFrame(0x0A),
+            "failed to decode frame with tag 0x0a",
+        ),
         (
             DecodeErrorKind::Conflict(WireTypeId(256)),
             "type_id WireTypeId(256) already registered with different schema",
@@ -53,6 +74,9 @@ fn faults_of_decoding(rt: HostRuntime) -> Result<(), Fail> {
         kind: DecodeErrorKind::TruncatedReset,
     };
     let text = format!(in rt.alloc(); "{fault}")?;
-    assert_eq!(rt; text.as_str(), "decode error at byte 40: truncated timestamp reset");
+    assert_eq!(rt;
+        text.as_str(),
+        "decode error at byte 40: truncated timestamp reset"
+    );
     Ok(())
 }

@@ -38,11 +38,7 @@ pub fn ev(alloc: Global) -> Result<Schema, AllocError> {
 }
 
 /// What an encoder writes for events of one number each.
-pub fn written(
-    alloc: Global,
-    name: &str,
-    events: &[(u64, u64)],
-) -> Result<Vec<u8>, EncodeError> {
+pub fn written(alloc: Global, name: &str, events: &[(u64, u64)]) -> Result<Vec<u8>, EncodeError> {
     let schema = one_field(alloc, name, "v", FieldType::Varint)?;
     let mut encoder = Encoder::new(alloc)?;
     for event in events {
@@ -52,11 +48,7 @@ pub fn written(
 }
 
 /// So many lists, one in the other; the innermost is empty or holds a number.
-pub fn nested_lists(
-    alloc: Global,
-    depth: usize,
-    filled: bool,
-) -> Result<FieldValue, AllocError> {
+pub fn nested_lists(alloc: Global, depth: usize, filled: bool) -> Result<FieldValue, AllocError> {
     let mut items = Vec::new(alloc);
     if filled {
         items.push(FieldValue::Varint(1))?;

@@ -42,8 +42,9 @@ fn check_read(
     let (owned, rest) = FieldValue::decode(alloc, field_type, more.as_slice())?.ok_or("no value")?;
     assert!(rt; owned == *value);
     assert_eq!(rt; rest, [0xFF].as_slice());
-    let (borrowed, length) =
-        FieldValueRef::decode(alloc, field_type, more.as_slice(), 0)?.ok_or("no value")?;
+    let (borrowed, length) = FieldValueRef::decode(alloc, field_type, more.as_slice(), 0)?.ok_or(
+        "no value",
+    )?;
     assert_eq!(rt; length, bytes.len());
     assert!(rt; borrowed.to_owned(alloc)? == *value);
     for cut in 0..bytes.len() {
@@ -76,19 +77,79 @@ fn scalars(rt: HostRuntime) -> Result<(), Fail> {
     let minus_two = [0xFE, 0xFF, 0xFF, 0xFF, 0xFF, 0xFF, 0xFF, 0xFF];
     check_both_ways(&rt, alloc, FieldType::I64, &FieldValue::I64(-2), &minus_two)?;
     let half = [0x00, 0x00, 0x00, 0x00, 0x00, 0x00, 0xE0, 0x3F];
-    check_both_ways(&rt, alloc, FieldType::F64, &FieldValue::F64(0x3FE0_0000_0000_0000), &half)?;
-    check_both_ways(&rt, alloc, FieldType::Bool, &FieldValue::Bool(true), &[0x01])?;
-    check_both_ways(&rt, alloc, FieldType::Bool, &FieldValue::Bool(false), &[0x00])?;
-    check_read(&rt, alloc, FieldType::Bool, &FieldValue::Bool(true), &[0x02])?;
-    check_read(&rt, alloc, FieldType::OptionalBool, &FieldValue::Bool(true), &[0xFF])?;
-    check_both_ways(&rt, alloc, FieldType::Varint, &FieldValue::Varint(300), &[0xAC, 0x02])?;
+    check_both_ways(
+        &rt,
+        alloc,
+        FieldType::F64,
+        &FieldValue::F64(0x3FE0_0000_0000_0000),
+        &half,
+    )?;
+    check_both_ways(
+        &rt,
+        alloc,
+        FieldType::Bool,
+        &FieldValue::Bool(true),
+        &[0x01],
+    )?;
+    check_both_ways(
+        &rt,
+        alloc,
+        FieldType::Bool,
+        &FieldValue::Bool(false),
+        &[0x00],
+    )?;
+    check_read(
+        &rt,
+        alloc,
+        FieldType::Bool,
+        &FieldValue::Bool(true),
+        &[0x02],
+    )?;
+    check_read(
+        &rt,
+        alloc,
+        FieldType::OptionalBool,
+        &FieldValue::Bool(true),
+        &[0xFF],
+    )?;
+    check_both_ways(
+        &rt,
+        alloc,
+        FieldType::Varint,
+        &FieldValue::Varint(300),
+        &[0xAC, 0x02],
+    )?;
     check_read(&rt, alloc, FieldType::U8, &FieldValue::Varint(7), &[0x07])?;
-    check_read(&rt, alloc, FieldType::U16, &FieldValue::Varint(300), &[0x2C, 0x01])?;
-    check_read(&rt, alloc, FieldType::U32, &FieldValue::Varint(258), &[0x02, 0x01, 0x00, 0x00])?;
+    check_read(
+        &rt,
+        alloc,
+        FieldType::U16,
+        &FieldValue::Varint(300),
+        &[0x2C, 0x01],
+    )?;
+    check_read(
+        &rt,
+        alloc,
+        FieldType::U32,
+        &FieldValue::Varint(258),
+        &[0x02, 0x01, 0x00, 0x00],
+    )?;
     let text = FieldValue::PooledString(InternedString::from_raw(7));
-    check_both_ways(&rt, alloc, FieldType::PooledString, &text, &[0x07, 0x00, 0x00, 0x00])?;
+    check_both_ways(
+        &rt,
+        alloc,
+        FieldType::PooledString,
+        &text,
+        &[0x07, 0x00, 0x00, 0x00],
+    )?;
     let stack = FieldValue::PooledStackFrames(InternedStackFrames::from_raw(8));
-    check_both_ways(&rt, alloc, FieldType::PooledStackFrames, &stack, &[0x08, 0x00, 0x00, 0x00])
+    check_both_ways(
+        &rt,
+        alloc,
+        FieldType::PooledStackFrames,
+        &stack,
+        &[0x08, 0x00, 0x00, 0x00],
+    )
 }
 
 #[test]
@@ -109,9 +170,17 @@ fn maps_of_texts_and_addresses(rt: HostRuntime) -> Result<(), Fail> {
     let spelled = [
         0x01, 0x00, 0x00, 0x00, 0x01, 0x00, 0x00, 0x00, 0x6B, 0x01, 0x00, 0x00, 0x00, 0x76,
     ];
-    check_both_ways(&rt, alloc, FieldType::StringMap, &FieldValue::StringMap(pairs), &spelled)?;
+    check_both_ways(
+        &rt,
+        alloc,
+        FieldType::StringMap,
+        &FieldValue::StringMap(pairs),
+        &spelled,
+    )?;
     let frames = StackFrames::from_slice(alloc, &[0x10])?;
-    let addresses = [0x01, 0x00, 0x00, 0x00, 0x10, 0x00, 0x00, 0x00, 0x00, 0x00, 0x00, 0x00];
+    let addresses = [
+        0x01, 0x00, 0x00, 0x00, 0x10, 0x00, 0x00, 0x00, 0x00, 0x00, 0x00, 0x00,
+    ];
     let value = FieldValue::StackFrames(frames);
     check_both_ways(&rt, alloc, FieldType::StackFrames, &value, &addresses)
 }
@@ -125,11 +194,25 @@ fn lists_and_maps_with_tags(rt: HostRuntime) -> Result<(), Fail> {
     let spelled = [
         0x02, 0x00, 0x00, 0x00, 0x09, 0xAC, 0x02, 0x04, 0x01, 0x00, 0x00, 0x00, 0x61,
     ];
-    check_both_ways(&rt, alloc, FieldType::DynamicList, &FieldValue::List(items), &spelled)?;
+    check_both_ways(
+        &rt,
+        alloc,
+        FieldType::DynamicList,
+        &FieldValue::List(items),
+        &spelled,
+    )?;
     let mut pairs = Vec::new(alloc);
     pairs.push((FieldValue::Bool(true), FieldValue::List(Vec::new(alloc))))?;
-    let spelled = [0x01, 0x00, 0x00, 0x00, 0x03, 0x01, 0x0E, 0x00, 0x00, 0x00, 0x00];
-    check_both_ways(&rt, alloc, FieldType::DynamicMap, &FieldValue::Map(pairs), &spelled)
+    let spelled = [
+        0x01, 0x00, 0x00, 0x00, 0x03, 0x01, 0x0E, 0x00, 0x00, 0x00, 0x00,
+    ];
+    check_both_ways(
+        &rt,
+        alloc,
+        FieldType::DynamicMap,
+        &FieldValue::Map(pairs),
+        &spelled,
+    )
 }
 
 #[test]
@@ -142,22 +225,44 @@ fn optional_tags_inside_a_list(rt: HostRuntime) -> Result<(), Fail> {
         0x01, 0x00, 0x00, 0x00, 0x81, 0x2A, 0x00, 0x00, 0x00, 0x00, 0x00, 0x00, 0x00,
     ];
     check_read(&rt, alloc, FieldType::DynamicList, &list, &optional)?;
-    check_none(&rt, alloc, FieldType::DynamicList, &[0x01, 0x00, 0x00, 0x00, 0x00])?;
-    check_none(&rt, alloc, FieldType::DynamicList, &[0x01, 0x00, 0x00, 0x00, 0x10, 0x00])?;
+    check_none(
+        &rt,
+        alloc,
+        FieldType::DynamicList,
+        &[0x01, 0x00, 0x00, 0x00, 0x00],
+    )?;
+    check_none(
+        &rt,
+        alloc,
+        FieldType::DynamicList,
+        &[0x01, 0x00, 0x00, 0x00, 0x10, 0x00],
+    )?;
     let mut items = Vec::new(alloc);
     items.push(FieldValue::Varint(300))?;
     let small = [0x01, 0x00, 0x00, 0x00, 0x0C, 0x2C, 0x01];
-    check_read(&rt, alloc, FieldType::DynamicList, &FieldValue::List(items), &small)
+    check_read(
+        &rt,
+        alloc,
+        FieldType::DynamicList,
+        &FieldValue::List(items),
+        &small,
+    )
 }
 
 #[test]
 fn absent_values(rt: HostRuntime) -> Result<(), Fail> {
     let alloc = rt.alloc();
-    assert_eq!(rt; encoded(alloc, &FieldValue::None)?.as_slice(), [0x00].as_slice());
+    assert_eq!(rt;
+        encoded(alloc, &FieldValue::None)?.as_slice(),
+        [0x00].as_slice()
+    );
     let mut items = Vec::new(alloc);
     items.push(FieldValue::None)?;
     let spelled = [0x01, 0x00, 0x00, 0x00, 0x00, 0x00];
-    assert_eq!(rt; encoded(alloc, &FieldValue::List(items))?.as_slice(), spelled.as_slice());
+    assert_eq!(rt;
+        encoded(alloc, &FieldValue::List(items))?.as_slice(),
+        spelled.as_slice()
+    );
     assert_eq!(rt; FieldValue::None.field_type_tag(), 0);
     assert_eq!(rt; FieldValue::Varint(1).field_type_tag(), 9);
     Ok(())
@@ -168,7 +273,13 @@ fn greatest_depth(rt: HostRuntime) -> Result<(), Fail> {
     let alloc = rt.alloc();
     let deep = nested_lists(alloc, 33, false)?;
     let spelled = encoded(alloc, &deep)?;
-    check_read(&rt, alloc, FieldType::DynamicList, &deep, spelled.as_slice())?;
+    check_read(
+        &rt,
+        alloc,
+        FieldType::DynamicList,
+        &deep,
+        spelled.as_slice(),
+    )?;
     let deeper = encoded(alloc, &nested_lists(alloc, 34, false)?)?;
     check_none(&rt, alloc, FieldType::DynamicList, deeper.as_slice())?;
     let filled = encoded(alloc, &nested_lists(alloc, 33, true)?)?;
@@ -182,13 +293,15 @@ fn replaced_bytes(rt: HostRuntime) -> Result<(), Fail> {
         (&[0x01, 0x00, 0x00, 0x00, 0xFF], "\u{FFFD}"),
         (&[0x02, 0x00, 0x00, 0x00, 0xFF, 0xFF], "\u{FFFD}\u{FFFD}"),
         (&[0x03, 0x00, 0x00, 0x00, 0xE2, 0x82, 0x41], "\u{FFFD}A"),
-        (&[0x03, 0x00, 0x00, 0x00, 0xED, 0xA0, 0x80], "\u{FFFD}\u{FFFD}\u{FFFD}"),
+        (
+            &[0x03, 0x00, 0x00, 0x00, 0xED, 0xA0, 0x80],
+            "\u{FFFD}\u{FFFD}\u{FFFD}",
+        ),
         (&[0x03, 0x00, 0x00, 0x00, 0xF0, 0x90, 0x80], "\u{FFFD}"),
         (&[0x02, 0x00, 0x00, 0x00, 0xC0, 0x80], "\u{FFFD}\u{FFFD}"),
     ];
     for (bytes, text) in cases {
-        let (value, rest) =
-            FieldValue::decode(alloc, FieldType::String, bytes)?.ok_or("no value")?;
+        let (value, rest) = FieldValue::decode(alloc, FieldType::String, bytes)?.ok_or("no value")?;
         assert!(rt; value == FieldValue::string(alloc, text)?);
         assert_eq!(rt; rest.len(), 0);
         assert!(rt; FieldValueRef::decode(alloc, FieldType::String, bytes, 0)?.is_none());
@@ -202,12 +315,23 @@ fn counts_past_their_limits(rt: HostRuntime) -> Result<(), Fail> {
     let mut bytes = Vec::from_slice(alloc, &[0x41, 0x42, 0x0F, 0x00])?;
     let zeros: Vec<u8> = vec![in alloc; 0; 8_000_008]?;
     bytes.extend_from_slice(zeros.as_slice())?;
-    for field_type in [FieldType::DynamicList, FieldType::DynamicMap, FieldType::StringMap] {
+    for field_type in [
+        FieldType::DynamicList,
+        FieldType::DynamicMap,
+        FieldType::StringMap,
+    ] {
         check_none(&rt, alloc, field_type, bytes.as_slice())?;
     }
-    let (value, rest) =
-        FieldValue::decode(alloc, FieldType::StackFrames, bytes.as_slice())?.ok_or("no value")?;
-    assert!(rt; value == FieldValue::StackFrames(StackFrames::from_slice(alloc, &vec![in alloc; 0; 1_000_001]?)?));
+    let (value, rest) = FieldValue::decode(alloc, FieldType::StackFrames, bytes.as_slice())?.ok_or(
+        "no value",
+    )?;
+    assert!(rt;
+        value
+            == FieldValue::StackFrames(StackFrames::from_slice(
+                alloc,
+                &vec![in alloc; 0; 1_000_001]?
+            )?)
+    );
     assert_eq!(rt; rest.len(), 0);
     match FieldValueRef::decode(alloc, FieldType::StackFrames, bytes.as_slice(), 0)? {
         Some((FieldValueRef::StackFrames(frames), length)) => {

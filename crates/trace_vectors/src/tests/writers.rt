@@ -1,5 +1,7 @@
 //! Writers that fail, and one that takes a byte at a time.
 
+ghost use Rattle.std.specs.Prelude.{None};
+
 use crate::tests::traces::{ONE_EVENT, ev};
 use dial9_trace_format::encoder::Encoder;
 use dial9_trace_format::leb128::{EncodeError, TraceWrite};
@@ -65,9 +67,15 @@ fn writer_fails_after_eight_bytes(rt: HostRuntime) -> Result<(), Fail> {
     assert_eq!(rt; encoder.register_existing(&schema), fault);
     assert_eq!(rt; encoder.bytes_written(), 8);
     assert_eq!(rt; encoder.as_inner().taken.as_slice(), &ONE_EVENT[..8]);
-    assert_eq!(rt; encoder.register_existing(&schema), Err(EncodeError::Failed));
+    assert_eq!(rt;
+        encoder.register_existing(&schema),
+        Err(EncodeError::Failed)
+    );
     let values = [FieldValue::Varint(42)];
-    assert_eq!(rt; encoder.write_event(&schema, 1_000, &values), Err(EncodeError::Failed));
+    assert_eq!(rt;
+        encoder.write_event(&schema, 1_000, &values),
+        Err(EncodeError::Failed)
+    );
     assert_eq!(rt; encoder.bytes_written(), 8);
     assert_eq!(rt; encoder.into_inner().taken.as_slice(), &ONE_EVENT[..8]);
     Ok(())

@@ -1,9 +1,10 @@
 //! What an encoder writes.
 
 use crate::tests::traces::{EV_SCHEMA, HEADER, ONE_EVENT, ev, one_field, written};
+use dial9_trace_format::codec::WireTypeId;
 use dial9_trace_format::encoder::{Call, Encoder, Reply, run_calls};
 use dial9_trace_format::leb128::EncodeError;
-use dial9_trace_format::{codec::WireTypeId, schema::FieldDef};
+use dial9_trace_format::schema::FieldDef;
 use dial9_trace_format::types::{FieldType, FieldValue};
 use std::test::Fail;
 
@@ -63,7 +64,12 @@ fn one_event_by_calls(rt: HostRuntime) -> Result<(), Fail> {
 
 #[test]
 fn resets_of_the_base_time(rt: HostRuntime) -> Result<(), Fail> {
-    let events = [(100_000, 1), (50_000, 2), (200_000_000, 3), (100_000_000, 4)];
+    let events = [
+        (100_000, 1),
+        (50_000, 2),
+        (200_000_000, 3),
+        (100_000_000, 4),
+    ];
     let bytes = written(rt.alloc(), "TS", &events)?;
     assert_eq!(rt; bytes.len(), 74);
     let wanted: [u8; 55] = [
@@ -105,7 +111,10 @@ fn wrong_count_of_values(rt: HostRuntime) -> Result<(), Fail> {
     let schema = ev(rt.alloc())?;
     let mut encoder = Encoder::new(rt.alloc())?;
     let two = [FieldValue::Varint(1), FieldValue::Varint(2)];
-    assert_eq!(rt; encoder.write_event(&schema, 0, &two), Err(EncodeError::ValueCount));
+    assert_eq!(rt;
+        encoder.write_event(&schema, 0, &two),
+        Err(EncodeError::ValueCount)
+    );
     assert_eq!(rt; encoder.bytes_written(), 5);
     assert_eq!(rt; encoder.finish().as_slice(), HEADER.as_slice());
     Ok(())
@@ -118,9 +127,15 @@ fn registered_once(rt: HostRuntime) -> Result<(), Fail> {
     assert_eq!(rt; encoder.register_existing(&ev(alloc)?)?, WireTypeId(256));
     assert_eq!(rt; encoder.register_existing(&ev(alloc)?)?, WireTypeId(256));
     let other = one_field(alloc, "Ev", "w", FieldType::Bool)?;
-    assert_eq!(rt; encoder.register_existing(&other), Err(EncodeError::Conflict));
+    assert_eq!(rt;
+        encoder.register_existing(&other),
+        Err(EncodeError::Conflict)
+    );
     let next = one_field(alloc, "Next", "v", FieldType::Varint)?;
     assert_eq!(rt; encoder.register_existing(&next)?, WireTypeId(257));
-    assert_eq!(rt; encoder.as_inner().as_slice().get(5..19), Some(EV_SCHEMA.as_slice()));
+    assert_eq!(rt;
+        encoder.as_inner().as_slice().get(5..19),
+        Some(EV_SCHEMA.as_slice())
+    );
     Ok(())
 }
