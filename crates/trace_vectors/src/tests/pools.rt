@@ -182,22 +182,22 @@ fn claimed_addresses(rt: HostRuntime) -> Result<(), Fail> {
     Ok(())
 }
 
+/// How many texts and how many stacks the pools have behind all frames.
+fn pool_sizes(alloc: Global, bytes: &[u8]) -> Result<(usize, usize), Fail> {
+    let mut decoder = Decoder::new(alloc, bytes).ok_or("no header")?;
+    decoder.decode_all()?;
+    Ok((decoder.string_pool().len(), decoder.stack_pool().len()))
+}
+
 #[test]
 fn headers_empty_the_pools(rt: HostRuntime) -> Result<(), Fail> {
     let mut encoder = Encoder::new(rt.alloc())?;
     encoder.intern_string("io")?;
     encoder.intern_stack_frames(&[1])?;
     let mut bytes = encoder.finish();
-    let mut decoder = Decoder::new(rt.alloc(), &bytes).ok_or("no header")?;
-    assert_eq!(rt; decoder.decode_all()?.len(), 2);
-    assert_eq!(rt; decoder.string_pool().len(), 1);
-    assert_eq!(rt; decoder.stack_pool().len(), 1);
+    assert_eq!(rt; pool_sizes(rt.alloc(), &bytes)?, (1, 1));
     bytes.extend_from_slice(&HEADER)?;
-    let mut again = Decoder::new(rt.alloc(), &bytes).ok_or("no header")?;
-    assert_eq!(rt; again.decode_all()?.len(), 2);
-    assert_eq!(rt; again.string_pool().len(), 0);
-    assert_eq!(rt; again.stack_pool().len(), 0);
-    assert!(rt; again.string_pool().is_empty());
+    assert_eq!(rt; pool_sizes(rt.alloc(), &bytes)?, (0, 0));
     Ok(())
 }
 
