@@ -2,7 +2,7 @@
 use Rattle.std.specs.Prelude.{◌≡◌, ◌⊎◌, ℕ, ◌-◌, List, ◌++◌, length, drop}
 use Rattle.std.specs.List.{flat_map}
 use Rattle.trace_values.specs.Values.{owned_reader}
-use Rattle.trace_wire.specs.Schemas.{Layout}
+use Rattle.trace_wire.specs.Schemas.{Shape}
 use Rattle.trace_wire.specs.Frames.{Grammar, empty, Frame, Schema}
 use Rattle.trace_wire.specs.Runs.{Begins, Ending, Whole, Stopped, Conflict, IsLongest, Item, items}
 use Rattle.dial9_trace_format.specs.Decoding.{StartsWith}
@@ -18,7 +18,7 @@ abbrev pub IsEnd : ℕ → Grammar → List ℕ → Ending → ℕ → List ℕ 
 IsEnd size last rest Whole status text = (status ≡ 0) × (text ≡ whole_line)
 IsEnd size last rest Stopped status text = (status ≡ 2) × (text ≡ stopped_line (size - length rest))
 IsEnd size last rest Conflict status text =
-    (id : ℕ) × (layout : Layout) × (after : List ℕ) × Begins owned_reader last rest (Schema id layout) after × (status ≡ 3) × (text ≡ conflict_line (size - length after) id)
+    (id : ℕ) × (shape : Shape) × (after : List ℕ) × Begins owned_reader last rest (Schema id shape) after × (status ≡ 3) × (text ≡ conflict_line (size - length after) id)
 
 -- the lines behind the first, of bytes that end an input of a size: the items of the longest run of the owned reader, and its end
 pub record IsDumpFrom (g : Grammar) (size : ℕ) (bytes : List ℕ) (status : ℕ) (text : List ℕ) : Type 0 where

@@ -2,6 +2,7 @@
 #![tactic(auto)]
 
 pub mod dump;
+mod entries;
 mod lines;
-mod text;
-mod value;
+pub mod text;
+pub mod value;

@@ -1,11 +1,14 @@
 //! Worked examples of the format.
 
+mod annotations;
 mod dumps;
 mod example;
 mod fields;
 mod iterators;
 mod numbers;
+mod pools;
 mod reading;
+mod registry;
 mod texts;
 mod traces;
 mod values;

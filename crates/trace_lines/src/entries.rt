@@ -1,0 +1,42 @@
+//! Entries of pools, and annotations, as they stand in a line.
+
+ghost use Rattle.std.specs.Prelude.{◌≡◌, ◌++◌, OnOk, codes, string_bytes};
+ghost use Rattle.trace_wire.specs.PoolEntries.{string_entry_of, stack_entry_of};
+ghost use Rattle.trace_lines.specs.Lines.{string_entry_text, stack_entry_text, annotation_text};
+
+use crate::text::{push_addresses, push_quoted};
+use std::alloc::AllocError;
+use trace_wire::codec::{PoolEntry, StackPoolEntry};
+use trace_wire::schema::FieldAnnotation;
+
+/// Appends an entry of a string pool behind a space: its id and its bytes, which need not be text.
+#[tactic(auto, unfolding(crate::specs::Lines::string_entry_text))]
+pub fn push_string_entry(out: &mut String, entry: &PoolEntry) -> Result<(), AllocError>
+    ensures { OnOk result (string_bytes out.new ≡ string_bytes out.old ++ string_entry_text (string_entry_of entry.now)) }
+{
+    let id = entry.pool_id;
+    write!(out, " {id}:")?;
+    push_quoted(out, &entry.bytes)
+}
+
+/// Appends an entry of a stack pool behind a space: its id and its addresses.
+#[tactic(auto, unfolding(crate::specs::Lines::stack_entry_text))]
+pub fn push_stack_entry(out: &mut String, entry: &StackPoolEntry) -> Result<(), AllocError>
+    ensures { OnOk result (string_bytes out.new ≡ string_bytes out.old ++ stack_entry_text (stack_entry_of entry.now)) }
+{
+    let id = entry.pool_id;
+    write!(out, " {id}:")?;
+    push_addresses(out, &entry.frames)
+}
+
+/// Appends an annotation behind a space: the index of its field, its key and its value.
+#[tactic(auto, unfolding(crate::specs::Lines::annotation_text))]
+pub fn push_annotation(out: &mut String, annotation: &FieldAnnotation) -> Result<(), AllocError>
+    ensures { OnOk result (string_bytes out.new ≡ string_bytes out.old ++ annotation_text annotation.now) }
+{
+    let index = annotation.field_index();
+    write!(out, " {index}:")?;
+    push_quoted(out, annotation.key().as_bytes())?;
+    out.push('=')?;
+    push_quoted(out, annotation.value().as_bytes())
+}

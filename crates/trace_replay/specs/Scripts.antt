@@ -1,0 +1,67 @@
+-- How the calls of a script stand in its lines.
+use Rattle.std.specs.Prelude.{◌≡◌, ℕ, ◌==◌, Bool, true, not, List, [], ◌∷◌, ◌++◌, filter, Option, Some, None, Ok, codes, decimal, string_bytes}
+use Rattle.std.specs.List.{flat_map, slice_split}
+use Rattle.hex.specs.Hex.{decode_of}
+use Rattle.trace_values.specs.Values.{Value}
+use Rattle.trace_values.specs.View.{views}
+use Rattle.trace_lines.specs.Lines.{quoted, address_list, spaced_value}
+use Rattle.trace_replay.specs.declared.script.call.Call.{Call}
+use Rattle.trace_replay.specs.declared.script.call.Call.TheVariants.{Nothing, Define, Register, Event, DefineType, WriteTyped, InternString, InternStack, StringPool, StackPool, Reset, Resume, Raw, Bare}
+use Rattle.trace_replay.specs.Definitions.{definition_text}
+use Rattle.trace_replay.specs.Pools.{pool_text_text, pool_stack_text}
+
+-- an event: a handle, a time, and each value
+unfoldable pub event_text : ℕ → ℕ → List Value → List ℕ
+event_text handle time values = decimal handle ++ codes " " ++ decimal time ++ flat_map spaced_value values
+
+-- without its spaces the text is the hexadecimal digits of the bytes
+abbrev pub AreDigitsOf : List ℕ → List ℕ → Type 0
+AreDigitsOf bytes text = decode_of (filter (λ b. not (b == 32)) text) ≡ Ok bytes
+
+-- the line is empty, or begins with `#`
+abbrev pub is_silent : List ℕ → Bool
+is_silent [] = true
+is_silent (b ∷ bs) = b == 35
+
+-- the line says the call
+abbrev pub Says : Call → List ℕ → Type 0
+Says Nothing line = is_silent line ≡ true
+Says (Define handle definition) line = line ≡ codes "define " ++ decimal handle ++ codes " " ++ definition_text definition
+Says (Register handle) line = line ≡ codes "register " ++ decimal handle
+Says (Event handle time values) line = line ≡ codes "event " ++ event_text handle time (views values.items)
+Says (DefineType handle slot definition) line = line ≡ codes "type " ++ decimal handle ++ codes " " ++ decimal slot ++ codes " " ++ definition_text definition
+Says (WriteTyped handle time values) line = line ≡ codes "write " ++ event_text handle time (views values.items)
+Says (InternString text) line = line ≡ codes "string " ++ quoted (string_bytes text)
+Says (InternStack frames) line = line ≡ codes "stack " ++ address_list frames.items
+Says (StringPool entries) line = line ≡ codes "strings" ++ flat_map pool_text_text entries.items
+Says (StackPool entries) line = line ≡ codes "stacks" ++ flat_map pool_stack_text entries.items
+Says Reset line = line ≡ codes "reset"
+Says Resume line = line ≡ codes "resume"
+Says (Raw bytes) line = (digits : List ℕ) × (line ≡ codes "raw " ++ digits) × AreDigitsOf bytes.items digits
+Says Bare line = line ≡ codes "bare"
+
+-- each line says the call of its place
+abbrev pub SayEach : List (List ℕ) → List Call → Type 0
+SayEach [] [] = Unit {0}
+SayEach [] (call ∷ calls) = ⊥
+SayEach (line ∷ lines) [] = ⊥
+SayEach (line ∷ lines) (call ∷ calls) = Says call line × SayEach lines calls
+
+-- the lines of a text
+abbrev pub lines_of : List ℕ → List (List ℕ)
+lines_of text = slice_split (λ b. b == 10) text
+
+-- the lines of the text say the calls
+unfoldable pub IsScript : List Call → List ℕ → Type 0
+IsScript calls text = SayEach (lines_of text) calls
+
+-- the first line of the text, and what stands behind it
+abbrev pub IsFirstLine : List ℕ → List ℕ → Option (List ℕ) → Type 0
+IsFirstLine text line None = lines_of text ≡ line ∷ []
+IsFirstLine text line (Some rest) = lines_of text ≡ line ∷ lines_of rest
+
+-- one more call, which the line says
+pub record GainsCall (old new : List Call) (line : List ℕ) : Type 0 where
+  pub call : Call
+  pub says : Says call line
+  pub gained : new ≡ old ++ call ∷ []

@@ -1,0 +1,243 @@
+//! What a part of a line seems to say. Nothing here minds how exactly a part is spelled: the caller prints what was found, and
+//! sees whether the line begins with that.
+
+ghost use Rattle.std.specs.Prelude.{◌≡◌, ◌+◌, ◌<◌, ◌≤◌, ◌++◌, length, IfOk, IfSome};
+
+use crate::script::fault::Fault;
+use crate::script::parts::behind;
+use std::alloc::Global;
+use trace_values::types::{FieldValue, InternedStackFrames, InternedString, StackFrames};
+
+/// The number of the digits at the front, and the rest. It wraps at 64 bits, and is 0 where no digit stands.
+pub fn number(text: &[u8], radix: u32) -> (u64, &[u8])
+    requires lower_bound { 2 ≤ radix }
+    requires upper_bound { radix ≤ 36 }
+    ensures { length result.1.now ≤ length text.now }
+{
+    let mut value = 0u64;
+    for (i, byte) in text.iter().enumerate() {
+        match char::from(*byte).to_digit(radix) {
+            Some(digit) => value = value
+                .wrapping_mul(u64::from(radix))
+                .wrapping_add(u64::from(digit)),
+            None => return (value, &text[i..]),
+        }
+    }
+    (value, &[])
+}
+
+/// The bytes of the text in quotes at the front, and the rest.
+pub fn text(alloc: Global, line: &[u8]) -> Result<(Vec<u8>, &[u8]), Fault>
+    ensures { IfOk result (λ x. length x.1.now < length line.now) }
+{
+    let mut bytes = Vec::new(alloc);
+    let mut rest = behind(line, b"\"").ok_or(Fault::Text)?;
+    loop {
+        match rest {
+            [b'"', after @ ..] => return Ok((bytes, after)),
+            [b'\\', b'x', high, low, after @ ..] => {
+                bytes.push(hex_byte(*high, *low).ok_or(Fault::Text)?)?;
+                rest = after;
+            }
+            [byte, after @ ..] => {
+                bytes.push(*byte)?;
+                rest = after;
+            }
+            [] => return Err(Fault::Text),
+        }
+    }
+}
+
+// The byte of two hexadecimal digits.
+fn hex_byte(high: u8, low: u8) -> Option<u8> {
+    let high = char::from(high).to_digit(16)?;
+    let low = char::from(low).to_digit(16)?;
+    u8::try_from(high * 16 + low).ok()
+}
+
+/// The addresses in brackets at the front, and the rest.
+pub fn addresses(alloc: Global, line: &[u8]) -> Result<(Vec<u64>, &[u8]), Fault>
+    ensures { IfOk result (λ x. length x.1.now < length line.now) }
+{
+    let mut addresses = Vec::new(alloc);
+    let mut rest = behind(line, b"[").ok_or(Fault::Addresses)?;
+    if let [b']', after @ ..] = rest {
+        return Ok((addresses, after));
+    }
+    loop {
+        let digits = behind(rest, b"0x").ok_or(Fault::Addresses)?;
+        let (address, after) = number(digits, 16);
+        addresses.push(address)?;
+        match after {
+            [b',', more @ ..] => rest = more,
+            [b']', more @ ..] => return Ok((addresses, more)),
+            _ => return Err(Fault::Addresses),
+        }
+    }
+}
+
+/// The value at the front, which has at most this many values around its innermost one, and the rest.
+#[cycle(loose)]
+pub fn value(alloc: Global, levels: u32, line: &[u8]) -> Result<(FieldValue, &[u8]), Fault>
+    ensures { IfOk result (λ x. length x.1.now < length line.now) }
+{
+    if let Some(rest) = behind(line, b"None") {
+        return Ok((FieldValue::None, rest));
+    }
+    if let Some(rest) = behind(line, b"I64:") {
+        return Ok(integer(rest));
+    }
+    if let Some(rest) = behind(line, b"F64:0x") {
+        let (bits, rest) = number(rest, 16);
+        return Ok((FieldValue::F64(bits), rest));
+    }
+    if let Some(rest) = behind(line, b"Bool:true") {
+        return Ok((FieldValue::Bool(true), rest));
+    }
+    if let Some(rest) = behind(line, b"Bool:false") {
+        return Ok((FieldValue::Bool(false), rest));
+    }
+    if let Some(rest) = behind(line, b"String:") {
+        let (bytes, rest) = text(alloc, rest)?;
+        let text = String::from_utf8(bytes).map_err(|_| Fault::Utf8)?;
+        return Ok((FieldValue::String(text), rest));
+    }
+    if let Some(rest) = behind(line, b"Bytes:") {
+        let (bytes, rest) = text(alloc, rest)?;
+        return Ok((FieldValue::Bytes(bytes), rest));
+    }
+    if let Some(rest) = behind(line, b"PooledString:pool#") {
+        let (id, rest) = number(rest, 10);
+        let id = u32::try_from(id).map_err(|_| Fault::TooLarge)?;
+        return Ok((FieldValue::PooledString(InternedString::from_raw(id)), rest));
+    }
+    if let Some(rest) = behind(line, b"PooledStackFrames:stack#") {
+        let (id, rest) = number(rest, 10);
+        let id = u32::try_from(id).map_err(|_| Fault::TooLarge)?;
+        return Ok((
+            FieldValue::PooledStackFrames(InternedStackFrames::from_raw(id)),
+            rest,
+        ));
+    }
+    if let Some(rest) = behind(line, b"StackFrames:") {
+        let (frames, rest) = addresses(alloc, rest)?;
+        return Ok((FieldValue::StackFrames(StackFrames(frames)), rest));
+    }
+    if let Some(rest) = behind(line, b"Varint:") {
+        let (number, rest) = number(rest, 10);
+        return Ok((FieldValue::Varint(number), rest));
+    }
+    if let Some(rest) = behind(line, b"StringMap:{") {
+        let (pairs, rest) = text_pairs(alloc, rest)?;
+        return Ok((FieldValue::StringMap(pairs), rest));
+    }
+    inside(alloc, levels, line)
+}
+
+// A number with its sign, and the rest. It wraps at 64 bits.
+fn integer(line: &[u8]) -> (FieldValue, &[u8])
+    ensures { length result.1.now ≤ length line.now }
+{
+    match behind(line, b"-") {
+        Some(digits) => {
+            let (number, rest) = number(digits, 10);
+            (FieldValue::I64(number.wrapping_neg().cast_signed()), rest)
+        }
+        None => {
+            let (number, rest) = number(line, 10);
+            (FieldValue::I64(number.cast_signed()), rest)
+        }
+    }
+}
+
+// The pairs of a string map up to its closing brace, and the rest.
+fn text_pairs(alloc: Global, line: &[u8]) -> Result<(Vec<(Vec<u8>, Vec<u8>)>, &[u8]), Fault>
+    ensures { IfOk result (λ x. length x.1.now < length line.now) }
+{
+    let mut pairs = Vec::new(alloc);
+    if let [b'}', after @ ..] = line {
+        return Ok((pairs, after));
+    }
+    let mut rest = line;
+    loop {
+        let (key, after) = text(alloc, rest)?;
+        let after = behind(after, b"=").ok_or(Fault::Mark('='))?;
+        let (value, after) = text(alloc, after)?;
+        pairs.push((key, value))?;
+        match after {
+            [b',', more @ ..] => rest = more,
+            [b'}', more @ ..] => return Ok((pairs, more)),
+            _ => return Err(Fault::Value),
+        }
+    }
+}
+
+// A list or a map at the front, and the rest.
+#[cycle(loose)]
+fn inside(alloc: Global, levels: u32, line: &[u8]) -> Result<(FieldValue, &[u8]), Fault>
+    ensures { IfOk result (λ x. length x.1.now < length line.now) }
+{
+    if let Some(rest) = behind(line, b"List:[") {
+        if levels == 0 {
+            return Err(Fault::Depth);
+        }
+        let (items, rest) = items(alloc, levels - 1, rest)?;
+        return Ok((FieldValue::List(items), rest));
+    }
+    if let Some(rest) = behind(line, b"Map:{") {
+        if levels == 0 {
+            return Err(Fault::Depth);
+        }
+        let (pairs, rest) = pairs(alloc, levels - 1, rest)?;
+        return Ok((FieldValue::Map(pairs), rest));
+    }
+    Err(Fault::Value)
+}
+
+// The items of a list up to its closing bracket, and the rest.
+#[cycle(loose)]
+fn items(alloc: Global, levels: u32, line: &[u8]) -> Result<(Vec<FieldValue>, &[u8]), Fault>
+    ensures { IfOk result (λ x. length x.1.now < length line.now) }
+{
+    let mut items = Vec::new(alloc);
+    if let [b']', after @ ..] = line {
+        return Ok((items, after));
+    }
+    let mut rest = line;
+    loop {
+        let (item, after) = value(alloc, levels, rest)?;
+        items.push(item)?;
+        match after {
+            [b',', more @ ..] => rest = more,
+            [b']', more @ ..] => return Ok((items, more)),
+            _ => return Err(Fault::Value),
+        }
+    }
+}
+
+// The pairs of a map up to its closing brace, and the rest.
+#[cycle(loose)]
+fn pairs(
+    alloc: Global,
+    levels: u32,
+    line: &[u8],
+) -> Result<(Vec<(FieldValue, FieldValue)>, &[u8]), Fault>
+    ensures { IfOk result (λ x. length x.1.now < length line.now) }
+{
+    let mut pairs = Vec::new(alloc);
+    if let [b'}', after @ ..] = line {
+        return Ok((pairs, after));
+    }
+    let mut rest = line;
+    loop {
+        let (key, after) = value(alloc, levels, rest)?;
+        let after = behind(after, b"=").ok_or(Fault::Mark('='))?;
+        let (value, after) = value(alloc, levels, after)?;
+        pairs.push((key, value))?;
+        match after {
+            [b',', more @ ..] => rest = more,
+            [b'}', more @ ..] => return Ok((pairs, more)),
+            _ => return Err(Fault::Value),
+        }
+    }
+}

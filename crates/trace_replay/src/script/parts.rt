@@ -1,0 +1,129 @@
+//! The parts of a line. Each is read by what it seems to say and then printed: a part that is not what is printed is refused, so
+//! that nothing is read as something else.
+
+ghost use Rattle.std.specs.Prelude.{◌≡◌, ◌+◌, ◌<◌, ◌++◌, length, IfOk, IfSome, codes, decimal, string_bytes};
+ghost use Rattle.trace_values.specs.View.{view};
+ghost use Rattle.trace_lines.specs.Lines.{quoted, address_list, type_name, value_text};
+
+use crate::script::fault::Fault;
+use crate::script::loose;
+use std::alloc::Global;
+use trace_lines::text::{push_addresses, push_quoted};
+use trace_lines::value::push_value;
+use trace_values::types::{FieldType, FieldValue};
+
+/// How many values a value of a script may have around it.
+pub const MOST_LEVELS: u32 = 100;
+
+/// What stands behind a mark, where the line begins with the mark.
+pub fn behind<'a>(line: &'a [u8], mark: &[u8]) -> Option<&'a [u8]>
+    ensures found { IfSome result (λ rest. line.now ≡ mark.now ++ rest.now) }
+    ensures len { IfSome result (λ rest. length rest.now + length mark.now ≡ length line.now) }
+{
+    line.strip_prefix(mark)
+}
+
+/// A number in decimal digits, and the rest.
+pub fn number_at(alloc: Global, line: &[u8]) -> Result<(u64, &[u8]), Fault>
+    ensures { IfOk result (λ x. line.now ≡ decimal x.0 ++ x.1.now) }
+{
+    let (number, _) = loose::number(line, 10);
+    let shown = number.to_string(alloc)?;
+    let rest = behind(line, shown.as_bytes()).ok_or(Fault::Number)?;
+    Ok((number, rest))
+}
+
+/// The bytes of a text in quotes, and the rest.
+pub fn text_at(alloc: Global, line: &[u8]) -> Result<(Vec<u8>, &[u8]), Fault>
+    ensures { IfOk result (λ x. line.now ≡ quoted x.0.items ++ x.1.now) }
+{
+    let (bytes, _) = loose::text(alloc, line)?;
+    let mut shown = String::new(alloc);
+    push_quoted(&mut shown, &bytes)?;
+    let rest = behind(line, shown.as_bytes()).ok_or(Fault::Text)?;
+    Ok((bytes, rest))
+}
+
+/// A text in quotes that is UTF-8, and the rest.
+pub fn name_at(alloc: Global, line: &[u8]) -> Result<(String, &[u8]), Fault>
+    ensures { IfOk result (λ x. line.now ≡ quoted (string_bytes x.0) ++ x.1.now) }
+{
+    let (bytes, rest) = text_at(alloc, line)?;
+    let name = String::from_utf8(bytes).map_err(|_| Fault::Utf8)?;
+    Ok((name, rest))
+}
+
+/// Addresses in brackets, and the rest.
+pub fn addresses_at(alloc: Global, line: &[u8]) -> Result<(Vec<u64>, &[u8]), Fault>
+    ensures { IfOk result (λ x. line.now ≡ address_list x.0.items ++ x.1.now) }
+{
+    let (addresses, _) = loose::addresses(alloc, line)?;
+    let mut shown = String::new(alloc);
+    push_addresses(&mut shown, &addresses)?;
+    let rest = behind(line, shown.as_bytes()).ok_or(Fault::Addresses)?;
+    Ok((addresses, rest))
+}
+
+/// A value as a dump shows it, and the rest.
+pub fn value_at(alloc: Global, line: &[u8]) -> Result<(FieldValue, &[u8]), Fault>
+    ensures { IfOk result (λ x. line.now ≡ value_text (view x.0) ++ x.1.now) }
+{
+    let (value, _) = loose::value(alloc, MOST_LEVELS, line)?;
+    let mut shown = String::new(alloc);
+    push_value(&mut shown, &value)?;
+    let rest = behind(line, shown.as_bytes()).ok_or(Fault::Value)?;
+    Ok((value, rest))
+}
+
+/// The name of a field type, and the rest.
+pub fn type_at(line: &[u8]) -> Result<(FieldType, &[u8]), Fault>
+    ensures { IfOk result (λ x. line.now ≡ type_name x.0 ++ x.1.now) }
+{
+    let end = line
+        .iter()
+        .position(|byte| !byte.is_ascii_alphanumeric())
+        .unwrap_or(line.len());
+    let (name, rest) = line.split_at(end);
+    let name = str::from_utf8(name).map_err(|_| Fault::FieldType)?;
+    let field_type = type_of(name).ok_or(Fault::FieldType)?;
+    Ok((field_type, rest))
+}
+
+// The type that has the name.
+fn type_of(name: &str) -> Option<FieldType>
+    ensures { IfSome result (λ t. name.now ≡ type_name t) }
+{
+    match name {
+        "I64" => Some(FieldType::I64),
+        "F64" => Some(FieldType::F64),
+        "Bool" => Some(FieldType::Bool),
+        "String" => Some(FieldType::String),
+        "Bytes" => Some(FieldType::Bytes),
+        "PooledStackFrames" => Some(FieldType::PooledStackFrames),
+        "PooledString" => Some(FieldType::PooledString),
+        "StackFrames" => Some(FieldType::StackFrames),
+        "Varint" => Some(FieldType::Varint),
+        "StringMap" => Some(FieldType::StringMap),
+        "U8" => Some(FieldType::U8),
+        "U16" => Some(FieldType::U16),
+        "U32" => Some(FieldType::U32),
+        "DynamicList" => Some(FieldType::DynamicList),
+        "DynamicMap" => Some(FieldType::DynamicMap),
+        "OptionalI64" => Some(FieldType::OptionalI64),
+        "OptionalF64" => Some(FieldType::OptionalF64),
+        "OptionalBool" => Some(FieldType::OptionalBool),
+        "OptionalString" => Some(FieldType::OptionalString),
+        "OptionalBytes" => Some(FieldType::OptionalBytes),
+        "OptionalPooledStackFrames" => Some(FieldType::OptionalPooledStackFrames),
+        "OptionalPooledString" => Some(FieldType::OptionalPooledString),
+        "OptionalStackFrames" => Some(FieldType::OptionalStackFrames),
+        "OptionalVarint" => Some(FieldType::OptionalVarint),
+        "OptionalStringMap" => Some(FieldType::OptionalStringMap),
+        "OptionalU8" => Some(FieldType::OptionalU8),
+        "OptionalU16" => Some(FieldType::OptionalU16),
+        "OptionalU32" => Some(FieldType::OptionalU32),
+        "OptionalDynamicList" => Some(FieldType::OptionalDynamicList),
+        "OptionalDynamicMap" => Some(FieldType::OptionalDynamicMap),
+        _ => None,
+    }
+}
