@@ -1,9 +1,12 @@
 //! Worked examples of the format.
 
 mod annotations;
+mod calls;
+mod copies;
 mod dumps;
 mod example;
 mod fields;
+mod frames;
 mod iterators;
 mod numbers;
 mod pools;

@@ -1,5 +1,6 @@
 //! Fields of events: values written by the type of their field.
 
+use crate::tests::calls::{all, all_of, decoder_of, put_event};
 use crate::tests::traces::{HEADER, nested_lists, one_field};
 use dial9_trace_format::decoder::{DecodedFrame, Decoder};
 use dial9_trace_format::encoder::{Encoder, Schema};
@@ -11,8 +12,7 @@ use std::test::Fail;
 
 /// The values of the last frame of a trace, an event.
 fn last_values(alloc: Global, bytes: &[u8]) -> Result<Vec<FieldValue>, Fail> {
-    let mut decoder = Decoder::new(alloc, bytes).ok_or("no header")?;
-    let mut frames = decoder.decode_all()?;
+    let mut frames = all_of(alloc, bytes)?;
     match frames.pop() {
         Some(
             DecodedFrame::Event {
@@ -30,7 +30,7 @@ fn numbers_of_two_bytes(rt: HostRuntime) -> Result<(), Fail> {
     let alloc = rt.alloc();
     let schema = one_field(alloc, "S", "n", FieldType::U16)?;
     let mut encoder = Encoder::new(alloc)?;
-    encoder.write_event(&schema, 0, &[FieldValue::Varint(300)])?;
+    put_event(&mut encoder, &schema, 0, &[FieldValue::Varint(300)])?;
     assert_eq!(rt; encoder.bytes_written(), 26);
     let event = [0x02, 0x00, 0x01, 0x00, 0x00, 0x00, 0x2C, 0x01];
     assert_eq!(rt;
@@ -39,11 +39,11 @@ fn numbers_of_two_bytes(rt: HostRuntime) -> Result<(), Fail> {
     );
     let misfit = Err(EncodeError::Misfit { field: 0 });
     assert_eq!(rt;
-        encoder.write_event(&schema, 0, &[FieldValue::Varint(65_536)]),
+        put_event(&mut encoder, &schema, 0, &[FieldValue::Varint(65_536)]),
         misfit
     );
     assert_eq!(rt;
-        encoder.write_event(&schema, 0, &[FieldValue::Bool(true)]),
+        put_event(&mut encoder, &schema, 0, &[FieldValue::Bool(true)]),
         misfit
     );
     assert_eq!(rt; encoder.bytes_written(), 26);
@@ -58,8 +58,8 @@ fn optional_fields(rt: HostRuntime) -> Result<(), Fail> {
     let alloc = rt.alloc();
     let schema = one_field(alloc, "S", "o", FieldType::OptionalU8)?;
     let mut encoder = Encoder::new(alloc)?;
-    encoder.write_event(&schema, 0, &[FieldValue::None])?;
-    encoder.write_event(&schema, 0, &[FieldValue::Varint(7)])?;
+    put_event(&mut encoder, &schema, 0, &[FieldValue::None])?;
+    put_event(&mut encoder, &schema, 0, &[FieldValue::Varint(7)])?;
     let events = [
         0x02, 0x00, 0x01, 0x00, 0x00, 0x00, 0x00, 0x02, 0x00, 0x01, 0x00, 0x00, 0x00, 0x01, 0x07,
     ];
@@ -85,12 +85,12 @@ fn least_field_that_does_not_fit(rt: HostRuntime) -> Result<(), Fail> {
     let schema = Schema::new(alloc, "S", fields)?;
     let mut encoder = Encoder::new(alloc)?;
     let two_misfits = [FieldValue::Varint(1), FieldValue::Varint(256)];
-    let first = encoder.write_event(&schema, 0, &two_misfits);
+    let first = put_event(&mut encoder, &schema, 0, &two_misfits);
     assert_eq!(rt; first, Err(EncodeError::Misfit { field: 0 }));
     let one_misfit = [FieldValue::string(alloc, "hi")?, FieldValue::Varint(256)];
-    let second = encoder.write_event(&schema, 0, &one_misfit);
+    let second = put_event(&mut encoder, &schema, 0, &one_misfit);
     assert_eq!(rt; second, Err(EncodeError::Misfit { field: 1 }));
-    let count = encoder.write_event(&schema, 0, &[FieldValue::Varint(1)]);
+    let count = put_event(&mut encoder, &schema, 0, &[FieldValue::Varint(1)]);
     assert_eq!(rt; count, Err(EncodeError::ValueCount));
     assert_eq!(rt; encoder.finish().as_slice(), HEADER.as_slice());
     Ok(())
@@ -117,16 +117,16 @@ fn depth_of_lists(rt: HostRuntime) -> Result<(), Fail> {
     let schema = one_field(alloc, "L", "l", FieldType::DynamicList)?;
     let mut encoder = Encoder::new(alloc)?;
     let deep = [nested_lists(alloc, 33, false)?];
-    encoder.write_event(&schema, 0, &deep)?;
+    put_event(&mut encoder, &schema, 0, &deep)?;
     let misfit = Err(EncodeError::Misfit { field: 0 });
     let deeper = [nested_lists(alloc, 34, false)?];
-    assert_eq!(rt; encoder.write_event(&schema, 0, &deeper), misfit);
+    assert_eq!(rt; put_event(&mut encoder, &schema, 0, &deeper), misfit);
     let filled = [nested_lists(alloc, 33, true)?];
-    assert_eq!(rt; encoder.write_event(&schema, 0, &filled), misfit);
+    assert_eq!(rt; put_event(&mut encoder, &schema, 0, &filled), misfit);
     let mut items = Vec::new(alloc);
     items.push(FieldValue::None)?;
     let absent = [FieldValue::List(items)];
-    assert_eq!(rt; encoder.write_event(&schema, 0, &absent), misfit);
+    assert_eq!(rt; put_event(&mut encoder, &schema, 0, &absent), misfit);
     let values = last_values(alloc, encoder.finish().as_slice())?;
     assert_eq!(rt; values.len(), 1);
     assert!(rt; values[0] == deep[0]);
@@ -156,7 +156,7 @@ fn a_million_and_one_addresses(rt: HostRuntime) -> Result<(), Fail> {
     let mut encoder = Encoder::new(alloc)?;
     let frames = StackFrames::from_slice(alloc, &vec![in alloc; 7; 1_000_001]?)?;
     let values = [FieldValue::StackFrames(frames)];
-    encoder.write_event(&schema, 0, &values)?;
+    put_event(&mut encoder, &schema, 0, &values)?;
     assert_eq!(rt; encoder.bytes_written(), 8_000_036);
     let read = last_values(alloc, encoder.finish().as_slice())?;
     assert_eq!(rt; read.len(), 1);
@@ -173,7 +173,7 @@ fn a_million_and_one_pairs(rt: HostRuntime) -> Result<(), Fail> {
         pairs.push((Vec::new(alloc), Vec::new(alloc)))?;
     }
     let mut encoder = Encoder::new(alloc)?;
-    let refused = encoder.write_event(&schema, 0, &[FieldValue::StringMap(pairs)]);
+    let refused = put_event(&mut encoder, &schema, 0, &[FieldValue::StringMap(pairs)]);
     assert_eq!(rt; refused, Err(EncodeError::Misfit { field: 0 }));
     assert_eq!(rt; encoder.bytes_written(), 5);
     Ok(())

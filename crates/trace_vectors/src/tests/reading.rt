@@ -1,6 +1,7 @@
 //! What a decoder gives.
 
-use crate::tests::traces::{EV_SCHEMA, HEADER, ONE_EVENT, written};
+use crate::tests::calls::{all, decoder_of, next, next_one};
+use crate::tests::traces::{EV_SCHEMA, HEADER, ONE_EVENT, with_conflict, written};
 use dial9_trace_format::codec::WireTypeId;
 use dial9_trace_format::decoder::{DecodeErrorKind, DecodedFrame, Decoder};
 use dial9_trace_format::types::{FieldType, FieldValue};
@@ -8,7 +9,7 @@ use std::process::Abort;
 use std::test::Fail;
 
 /// The frame is the schema `Ev`.
-fn check_ev(rt: &impl Abort, frame: &DecodedFrame) {
+pub fn check_ev(rt: &impl Abort, frame: &DecodedFrame) {
     match frame {
         DecodedFrame::Schema(entry) => {
             assert_eq!(rt; entry.name(), "Ev");
@@ -21,7 +22,7 @@ fn check_ev(rt: &impl Abort, frame: &DecodedFrame) {
 }
 
 /// The frame is an event of wire id 256 with this time and this number.
-fn check_event(rt: &impl Abort, frame: &DecodedFrame, time: u64, number: u64) {
+pub fn check_event(rt: &impl Abort, frame: &DecodedFrame, time: u64, number: u64) {
     match frame {
         DecodedFrame::Event {
             type_id,
@@ -39,10 +40,10 @@ fn check_event(rt: &impl Abort, frame: &DecodedFrame, time: u64, number: u64) {
 
 #[test]
 fn header_alone(rt: HostRuntime) -> Result<(), Fail> {
-    let mut decoder = Decoder::new(rt.alloc(), &HEADER).ok_or("no header")?;
+    let mut decoder = decoder_of(rt.alloc(), &HEADER)?;
     assert_eq!(rt; decoder.version(), 1);
     assert_eq!(rt; decoder.data_len(), 5);
-    assert!(rt; decoder.next_frame()?.is_none());
+    assert!(rt; next(&mut decoder)?.is_none());
     assert_eq!(rt; decoder.position(), 5);
     Ok(())
 }
@@ -50,8 +51,8 @@ fn header_alone(rt: HostRuntime) -> Result<(), Fail> {
 #[test]
 fn any_version(rt: HostRuntime) -> Result<(), Fail> {
     let bytes = [0x54, 0x52, 0x43, 0x00, 0x07, 0x54, 0x52, 0x43, 0x00, 0x02];
-    let mut decoder = Decoder::new(rt.alloc(), &bytes).ok_or("no header")?;
-    assert!(rt; decoder.next_frame()?.is_none());
+    let mut decoder = decoder_of(rt.alloc(), &bytes)?;
+    assert!(rt; next(&mut decoder)?.is_none());
     assert_eq!(rt; decoder.version(), 7);
     assert_eq!(rt; decoder.position(), 10);
     Ok(())
@@ -66,12 +67,12 @@ fn no_header(rt: HostRuntime) {
 
 #[test]
 fn one_event_frame_by_frame(rt: HostRuntime) -> Result<(), Fail> {
-    let mut decoder = Decoder::new(rt.alloc(), &ONE_EVENT).ok_or("no header")?;
-    check_ev(&rt, &decoder.next_frame()?.ok_or("no schema")?);
+    let mut decoder = decoder_of(rt.alloc(), &ONE_EVENT)?;
+    check_ev(&rt, &next_one(&mut decoder)?);
     assert_eq!(rt; decoder.position(), 19);
-    check_event(&rt, &decoder.next_frame()?.ok_or("no event")?, 1_000, 42);
+    check_event(&rt, &next_one(&mut decoder)?, 1_000, 42);
     assert_eq!(rt; decoder.position(), 26);
-    assert!(rt; decoder.next_frame()?.is_none());
+    assert!(rt; next(&mut decoder)?.is_none());
     assert_eq!(rt; decoder.position(), 26);
     Ok(())
 }
@@ -82,7 +83,7 @@ fn every_cut_of_one_event(rt: HostRuntime) -> Result<(), Fail> {
         match Decoder::new(rt.alloc(), &ONE_EVENT[..cut]) {
             None => assert!(rt; cut < 5),
             Some(mut decoder) => {
-                let frames = decoder.decode_all()?;
+                let frames = all(&mut decoder)?;
                 let place = if cut < 19 {
                     assert_eq!(rt; frames.len(), 0);
                     5
@@ -111,8 +112,8 @@ fn times_come_back(rt: HostRuntime) -> Result<(), Fail> {
         (100_000_000, 4),
     ];
     let bytes = written(rt.alloc(), "TS", &events)?;
-    let mut decoder = Decoder::new(rt.alloc(), bytes.as_slice()).ok_or("no header")?;
-    let frames = decoder.decode_all()?;
+    let mut decoder = decoder_of(rt.alloc(), &bytes)?;
+    let frames = all(&mut decoder)?;
     assert_eq!(rt; frames.len(), 5);
     for (i, event) in events.iter().enumerate() {
         assert!(rt; i + 1 < frames.len());
@@ -126,8 +127,8 @@ fn times_come_back(rt: HostRuntime) -> Result<(), Fail> {
 fn two_streams(rt: HostRuntime) -> Result<(), Fail> {
     let mut bytes = ONE_EVENT.to_vec(rt.alloc())?;
     bytes.extend_from_slice(&ONE_EVENT)?;
-    let mut decoder = Decoder::new(rt.alloc(), bytes.as_slice()).ok_or("no header")?;
-    let frames = decoder.decode_all()?;
+    let mut decoder = decoder_of(rt.alloc(), &bytes)?;
+    let frames = all(&mut decoder)?;
     assert_eq!(rt; frames.len(), 4);
     check_event(&rt, &frames[1], 1_000, 42);
     check_ev(&rt, &frames[2]);
@@ -140,35 +141,42 @@ fn two_streams(rt: HostRuntime) -> Result<(), Fail> {
 fn second_stream_cut_in_its_header(rt: HostRuntime) -> Result<(), Fail> {
     let mut bytes = ONE_EVENT.to_vec(rt.alloc())?;
     bytes.extend_from_slice(&ONE_EVENT[..4])?;
-    let mut decoder = Decoder::new(rt.alloc(), bytes.as_slice()).ok_or("no header")?;
-    assert_eq!(rt; decoder.decode_all()?.len(), 2);
+    let mut decoder = decoder_of(rt.alloc(), &bytes)?;
+    assert_eq!(rt; all(&mut decoder)?.len(), 2);
     assert_eq!(rt; decoder.position(), 26);
     Ok(())
 }
 
-#[test]
-fn conflict(rt: HostRuntime) -> Result<(), Fail> {
-    let mut bytes = ONE_EVENT.to_vec(rt.alloc())?;
-    bytes.extend_from_slice(&[
-        0x01, 0x00, 0x01, 0x02, 0x00, 0x45, 0x76, 0x01, 0x01, 0x00, 0x01, 0x00, 0x77, 0x03,
-    ])?;
-    let mut decoder = Decoder::new(rt.alloc(), bytes.as_slice()).ok_or("no header")?;
-    check_ev(&rt, &decoder.next_frame()?.ok_or("no schema")?);
-    check_event(&rt, &decoder.next_frame()?.ok_or("no event")?, 1_000, 42);
-    for _ in 0..2u8 {
-        match decoder.next_frame() {
-            Ok(_) => assert!(rt; false, "no conflict"),
-            Err(fault) => {
-                assert_eq!(rt; fault.pos, 40);
-                assert_eq!(rt; fault.kind, DecodeErrorKind::Conflict(WireTypeId(256)));
-            }
+/// The decoder gives the conflict of wire id 256, behind the second schema.
+fn check_conflict(rt: &impl Abort, decoder: &mut Decoder<'_>) {
+    match decoder.next_frame() {
+        Ok(_) => assert!(rt; false, "no conflict"),
+        Err(fault) => {
+            assert_eq!(rt; fault.pos, 40);
+            assert_eq!(rt; fault.kind, DecodeErrorKind::Conflict(WireTypeId(256)));
         }
     }
+}
+
+#[test]
+fn conflict(rt: HostRuntime) -> Result<(), Fail> {
+    let bytes = with_conflict(rt.alloc())?;
+    let mut decoder = decoder_of(rt.alloc(), &bytes)?;
+    check_ev(&rt, &next_one(&mut decoder)?);
+    check_event(&rt, &next_one(&mut decoder)?, 1_000, 42);
+    check_conflict(&rt, &mut decoder);
+    check_conflict(&rt, &mut decoder);
     assert_eq!(rt; decoder.position(), 40);
-    assert_eq!(rt; decoder.decode_all()?.len(), 0);
-    let mut other = Decoder::new(rt.alloc(), bytes.as_slice()).ok_or("no header")?;
-    assert_eq!(rt; other.decode_all()?.len(), 2);
-    assert_eq!(rt; other.position(), 40);
+    assert_eq!(rt; all(&mut decoder)?.len(), 0);
+    Ok(())
+}
+
+#[test]
+fn all_frames_before_a_conflict(rt: HostRuntime) -> Result<(), Fail> {
+    let bytes = with_conflict(rt.alloc())?;
+    let mut decoder = decoder_of(rt.alloc(), &bytes)?;
+    assert_eq!(rt; all(&mut decoder)?.len(), 2);
+    assert_eq!(rt; decoder.position(), 40);
     Ok(())
 }
 
@@ -176,8 +184,8 @@ fn conflict(rt: HostRuntime) -> Result<(), Fail> {
 fn same_schema_again(rt: HostRuntime) -> Result<(), Fail> {
     let mut bytes = ONE_EVENT.to_vec(rt.alloc())?;
     bytes.extend_from_slice(&EV_SCHEMA)?;
-    let mut decoder = Decoder::new(rt.alloc(), bytes.as_slice()).ok_or("no header")?;
-    assert_eq!(rt; decoder.decode_all()?.len(), 3);
+    let mut decoder = decoder_of(rt.alloc(), &bytes)?;
+    assert_eq!(rt; all(&mut decoder)?.len(), 3);
     assert_eq!(rt; decoder.position(), 40);
     Ok(())
 }
@@ -188,8 +196,8 @@ fn events_without_times(rt: HostRuntime) -> Result<(), Fail> {
         0x54, 0x52, 0x43, 0x00, 0x01, 0x01, 0x00, 0x01, 0x02, 0x00, 0x45, 0x76, 0x00, 0x01, 0x00,
         0x01, 0x00, 0x76, 0x09, 0x02, 0x00, 0x01, 0x2A,
     ];
-    let mut decoder = Decoder::new(rt.alloc(), &bytes).ok_or("no header")?;
-    let frames = decoder.decode_all()?;
+    let mut decoder = decoder_of(rt.alloc(), &bytes)?;
+    let frames = all(&mut decoder)?;
     assert_eq!(rt; frames.len(), 2);
     check_event(&rt, &frames[1], 0, 42);
     assert_eq!(rt; decoder.position(), 23);

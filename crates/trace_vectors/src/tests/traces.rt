@@ -1,5 +1,6 @@
 //! Traces that several tests use.
 
+use crate::tests::calls::put_event;
 use dial9_trace_format::encoder::{Encoder, Schema};
 use dial9_trace_format::leb128::EncodeError;
 use dial9_trace_format::schema::FieldDef;
@@ -19,6 +20,22 @@ pub const ONE_EVENT: [u8; 26] = [
     0x54, 0x52, 0x43, 0x00, 0x01, 0x01, 0x00, 0x01, 0x02, 0x00, 0x45, 0x76, 0x01, 0x01, 0x00, 0x01,
     0x00, 0x76, 0x09, 0x02, 0x00, 0x01, 0xE8, 0x03, 0x00, 0x2A,
 ];
+
+/// A header, and then these bytes.
+pub fn behind_header(alloc: Global, frames: &[u8]) -> Result<Vec<u8>, AllocError> {
+    let mut bytes = HEADER.to_vec(alloc)?;
+    bytes.extend_from_slice(frames)?;
+    Ok(bytes)
+}
+
+/// The trace of one event, and then another schema under its wire id.
+pub fn with_conflict(alloc: Global) -> Result<Vec<u8>, AllocError> {
+    let mut bytes = ONE_EVENT.to_vec(alloc)?;
+    bytes.extend_from_slice(&[
+        0x01, 0x00, 0x01, 0x02, 0x00, 0x45, 0x76, 0x01, 0x01, 0x00, 0x01, 0x00, 0x77, 0x03,
+    ])?;
+    Ok(bytes)
+}
 
 /// A schema of this name with one field.
 pub fn one_field(
@@ -42,7 +59,12 @@ pub fn written(alloc: Global, name: &str, events: &[(u64, u64)]) -> Result<Vec<u
     let schema = one_field(alloc, name, "v", FieldType::Varint)?;
     let mut encoder = Encoder::new(alloc)?;
     for event in events {
-        encoder.write_event(&schema, event.0, &[FieldValue::Varint(event.1)])?;
+        put_event(
+            &mut encoder,
+            &schema,
+            event.0,
+            &[FieldValue::Varint(event.1)],
+        )?;
     }
     Ok(encoder.finish())
 }

@@ -1,5 +1,6 @@
 //! What an encoder writes.
 
+use crate::tests::calls::{put_event, register};
 use crate::tests::traces::{EV_SCHEMA, HEADER, ONE_EVENT, ev, one_field, written};
 use dial9_trace_format::codec::WireTypeId;
 use dial9_trace_format::encoder::{Call, Encoder, Reply, run_calls};
@@ -20,9 +21,9 @@ fn empty_trace(rt: HostRuntime) -> Result<(), Fail> {
 fn one_event(rt: HostRuntime) -> Result<(), Fail> {
     let schema = ev(rt.alloc())?;
     let mut encoder = Encoder::new(rt.alloc())?;
-    assert_eq!(rt; encoder.register_existing(&schema)?, WireTypeId(256));
+    assert_eq!(rt; register(&mut encoder, &schema)?, WireTypeId(256));
     assert_eq!(rt; encoder.bytes_written(), 19);
-    encoder.write_event(&schema, 1_000, &[FieldValue::Varint(42)])?;
+    put_event(&mut encoder, &schema, 1_000, &[FieldValue::Varint(42)])?;
     assert_eq!(rt; encoder.bytes_written(), 26);
     assert_eq!(rt; encoder.as_inner().as_slice(), ONE_EVENT.as_slice());
     assert_eq!(rt; encoder.into_inner().as_slice(), ONE_EVENT.as_slice());
@@ -38,7 +39,7 @@ fn one_event_by_parts(rt: HostRuntime) -> Result<(), Fail> {
     assert_eq!(rt; schema.name(), "Ev");
     assert_eq!(rt; schema.fields().len(), 1);
     let again = schema.clone()?;
-    encoder.write_event(&again, 1_000, &[FieldValue::Varint(42)])?;
+    put_event(&mut encoder, &again, 1_000, &[FieldValue::Varint(42)])?;
     assert_eq!(rt; encoder.finish().as_slice(), ONE_EVENT.as_slice());
     Ok(())
 }
@@ -112,7 +113,7 @@ fn wrong_count_of_values(rt: HostRuntime) -> Result<(), Fail> {
     let mut encoder = Encoder::new(rt.alloc())?;
     let two = [FieldValue::Varint(1), FieldValue::Varint(2)];
     assert_eq!(rt;
-        encoder.write_event(&schema, 0, &two),
+        put_event(&mut encoder, &schema, 0, &two),
         Err(EncodeError::ValueCount)
     );
     assert_eq!(rt; encoder.bytes_written(), 5);
@@ -124,15 +125,12 @@ fn wrong_count_of_values(rt: HostRuntime) -> Result<(), Fail> {
 fn registered_once(rt: HostRuntime) -> Result<(), Fail> {
     let alloc = rt.alloc();
     let mut encoder = Encoder::new(alloc)?;
-    assert_eq!(rt; encoder.register_existing(&ev(alloc)?)?, WireTypeId(256));
-    assert_eq!(rt; encoder.register_existing(&ev(alloc)?)?, WireTypeId(256));
+    assert_eq!(rt; register(&mut encoder, &ev(alloc)?)?, WireTypeId(256));
+    assert_eq!(rt; register(&mut encoder, &ev(alloc)?)?, WireTypeId(256));
     let other = one_field(alloc, "Ev", "w", FieldType::Bool)?;
-    assert_eq!(rt;
-        encoder.register_existing(&other),
-        Err(EncodeError::Conflict)
-    );
+    assert_eq!(rt; register(&mut encoder, &other), Err(EncodeError::Conflict));
     let next = one_field(alloc, "Next", "v", FieldType::Varint)?;
-    assert_eq!(rt; encoder.register_existing(&next)?, WireTypeId(257));
+    assert_eq!(rt; register(&mut encoder, &next)?, WireTypeId(257));
     assert_eq!(rt;
         encoder.as_inner().as_slice().get(5..19),
         Some(EV_SCHEMA.as_slice())
