@@ -2,6 +2,7 @@
 
 mod annotations;
 mod calls;
+mod checks;
 mod copies;
 mod dumps;
 mod example;

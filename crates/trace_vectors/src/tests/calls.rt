@@ -2,10 +2,11 @@
 
 use dial9_trace_format::codec::{PoolEntry, StackPoolEntry, WireTypeId};
 use dial9_trace_format::decoder::{DecodedFrame, Decoder};
-use dial9_trace_format::encoder::{Encoder, Schema};
+use dial9_trace_format::encoder::{Call, Encoder, Reply, Schema, run_calls};
 use dial9_trace_format::leb128::EncodeError;
+use dial9_trace_format::schema::FieldDef;
 use dial9_trace_format::types::{FieldValue, InternedStackFrames, InternedString};
-use std::alloc::Global;
+use std::alloc::{AllocError, Global};
 use std::test::Fail;
 
 /// `Encoder::intern_string`.
@@ -36,6 +37,15 @@ pub fn register(encoder: &mut Encoder, schema: &Schema) -> Result<WireTypeId, En
     encoder.register_existing(schema)
 }
 
+/// `Encoder::register_schema`.
+pub fn register_new(
+    encoder: &mut Encoder,
+    name: &str,
+    fields: Vec<FieldDef>,
+) -> Result<Schema, EncodeError> {
+    encoder.register_schema(name, fields)
+}
+
 /// `Encoder::write_event`.
 pub fn put_event(
     encoder: &mut Encoder,
@@ -44,6 +54,11 @@ pub fn put_event(
     values: &[FieldValue],
 ) -> Result<(), EncodeError> {
     encoder.write_event(schema, time, values)
+}
+
+/// `run_calls`.
+pub fn run(alloc: Global, encoder: &mut Encoder, calls: &[Call]) -> Result<Vec<Reply>, AllocError> {
+    run_calls(alloc, encoder, calls)
 }
 
 /// `Decoder::new`, of bytes that begin with a header.

@@ -1,17 +1,9 @@
 //! The lines of dumps, and their statuses.
 
-use crate::tests::traces::{HEADER, ONE_EVENT, with_conflict};
-use std::alloc::Global;
-use std::process::Abort;
+use crate::tests::checks::check_dump;
+use crate::tests::traces::{HEADER, ONE_EVENT, OTHER_EV, joined};
 use std::test::Fail;
-use trace_lines::dump::{CONFLICT, NO_HEADER, STOPPED, WHOLE, dump};
-
-/// The dump of the bytes has this status and these lines.
-pub fn check_dump(rt: &impl Abort, alloc: Global, bytes: &[u8], status: u8, lines: &str) {
-    let mut out = Vec::new(alloc);
-    assert_eq!(rt; dump(alloc, bytes, &mut out), status);
-    assert_eq!(rt; out.as_slice(), lines.as_bytes());
-}
+use trace_lines::dump::{CONFLICT, NO_HEADER, STOPPED, WHOLE};
 
 #[test]
 fn dump_of_one_event(rt: HostRuntime) {
@@ -30,7 +22,7 @@ fn dump_of_a_cut_trace(rt: HostRuntime) {
 
 #[test]
 fn dump_of_a_conflict(rt: HostRuntime) -> Result<(), Fail> {
-    let bytes = with_conflict(rt.alloc())?;
+    let bytes = joined(rt.alloc(), &ONE_EVENT, &OTHER_EV)?;
     let lines =
         "trace version 1\nschema \"Ev\" \"v\":Varint\nevent 256 1000 Varint:42\nend conflict at 40 id 256\n";
     check_dump(&rt, rt.alloc(), &bytes, CONFLICT, lines);

@@ -2,7 +2,7 @@
 
 use crate::tests::annotations::{annotated, check_unit};
 use crate::tests::calls::{all_of, decoder_of, intern, intern_stack, next, put_event};
-use crate::tests::reading::{check_ev, check_event};
+use crate::tests::checks::{check_ev, check_event};
 use dial9_trace_format::codec::WireTypeId;
 use dial9_trace_format::decoder::DecodedFrame;
 use dial9_trace_format::encoder::Encoder;

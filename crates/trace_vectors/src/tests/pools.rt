@@ -1,12 +1,12 @@
 //! Pools of texts and of stacks, and interning.
 
 use crate::tests::calls::{
-    all, decoder_of, intern, intern_stack, next, next_one, put_stacks, put_strings,
+    all, decoder_of, intern, intern_stack, next_one, put_stacks, put_strings,
 };
-use crate::tests::dumps::check_dump;
-use crate::tests::traces::{HEADER, behind_header};
+use crate::tests::checks::{check_dump, check_end};
+use crate::tests::traces::{HEADER, joined};
 use dial9_trace_format::codec::{PoolEntry, StackPoolEntry};
-use dial9_trace_format::decoder::DecodedFrame;
+use dial9_trace_format::decoder::{DecodedFrame, StackPool, StringPool};
 use dial9_trace_format::encoder::Encoder;
 use dial9_trace_format::types::{InternedStackFrames, InternedString};
 use std::alloc::{AllocError, Global};
@@ -58,8 +58,23 @@ fn check_stack(
     Ok(())
 }
 
-/// The trace has so many frames, and behind them the pool holds these texts and no others.
-fn check_texts(
+/// The pool holds these texts by rising id, and no others.
+fn check_texts(rt: &impl Abort, pool: &StringPool, texts: &[(u32, &str)]) -> Result<(), Fail> {
+    assert_eq!(rt; pool.len(), texts.len());
+    let mut held = pool.iter();
+    for (id, text) in texts {
+        let (held_id, held_text) = held.next().ok_or("no text")?;
+        assert_eq!(rt; held_id.raw_id(), *id);
+        assert_eq!(rt; held_text, *text);
+        assert_eq!(rt; pool.get(held_id), Some(*text));
+    }
+    assert!(rt; held.next().is_none());
+    assert_eq!(rt; pool.get(InternedString::from_raw(2)), None);
+    Ok(())
+}
+
+/// The trace has so many frames, and behind them its pool holds these texts by rising id, and no others.
+fn check_texts_of(
     rt: &impl Abort,
     alloc: Global,
     bytes: &[u8],
@@ -68,16 +83,26 @@ fn check_texts(
 ) -> Result<(), Fail> {
     let mut decoder = decoder_of(alloc, bytes)?;
     assert_eq!(rt; all(&mut decoder)?.len(), frames);
-    let pool = decoder.string_pool();
-    for (id, text) in texts {
-        assert_eq!(rt; pool.get(InternedString::from_raw(*id)), Some(*text));
+    check_texts(rt, decoder.string_pool(), texts)
+}
+
+/// The pool holds these stacks by rising id, and no others.
+fn check_stacks(rt: &impl Abort, pool: &StackPool, stacks: &[(u32, &[u64])]) -> Result<(), Fail> {
+    assert_eq!(rt; pool.len(), stacks.len());
+    let mut held = pool.iter();
+    for (id, stack) in stacks {
+        let (held_id, addresses) = held.next().ok_or("no stack")?;
+        assert_eq!(rt; held_id.raw_id(), *id);
+        assert_eq!(rt; addresses, *stack);
+        assert_eq!(rt; pool.get(held_id), Some(*stack));
     }
-    assert_eq!(rt; pool.len(), texts.len());
+    assert!(rt; held.next().is_none());
+    assert_eq!(rt; pool.get(InternedStackFrames::from_raw(3)), None);
     Ok(())
 }
 
-/// The trace has so many frames, and behind them the pool holds these stacks by rising id, and no others.
-fn check_stacks(
+/// The trace has so many frames, and behind them its pool holds these stacks by rising id, and no others.
+fn check_stacks_of(
     rt: &impl Abort,
     alloc: Global,
     bytes: &[u8],
@@ -86,15 +111,7 @@ fn check_stacks(
 ) -> Result<(), Fail> {
     let mut decoder = decoder_of(alloc, bytes)?;
     assert_eq!(rt; all(&mut decoder)?.len(), frames);
-    let mut held = decoder.stack_pool().iter();
-    for (id, stack) in stacks {
-        let (held_id, addresses) = held.next().ok_or("no stack")?;
-        assert_eq!(rt; held_id, InternedStackFrames::from_raw(*id));
-        assert_eq!(rt; addresses, *stack);
-        assert_eq!(rt; decoder.stack_pool().get(held_id), Some(*stack));
-    }
-    assert!(rt; held.next().is_none());
-    Ok(())
+    check_stacks(rt, decoder.stack_pool(), stacks)
 }
 
 /// Writes a pool of one text.
@@ -117,7 +134,7 @@ fn interned_texts(rt: HostRuntime) -> Result<(), Fail> {
     put_text(rt.alloc(), &mut encoder, 0, b"b")?;
     check_text(&rt, &mut encoder, "hello", 0, 55)?;
     let bytes = encoder.finish();
-    check_texts(&rt, rt.alloc(), &bytes, 3, &[(0, "b"), (1, "world")])
+    check_texts_of(&rt, rt.alloc(), &bytes, 3, &[(0, "b"), (1, "world")])
 }
 
 #[test]
@@ -128,7 +145,7 @@ fn interned_stacks(rt: HostRuntime) -> Result<(), Fail> {
     check_stack(&rt, &mut encoder, &[16, 32], 1, 47)?;
     check_stack(&rt, &mut encoder, &[], 0, 47)?;
     let bytes = encoder.finish();
-    check_stacks(&rt, rt.alloc(), &bytes, 2, &[(0, &[]), (1, &[16, 32])])
+    check_stacks_of(&rt, rt.alloc(), &bytes, 2, &[(0, &[]), (1, &[16, 32])])
 }
 
 /// What an encoder writes for one pool of these stacks.
@@ -150,14 +167,12 @@ fn stack_pool_of_three(rt: HostRuntime) -> Result<(), Fail> {
     let stacks: [(u32, &[u64]); 3] = [(0, &[0xaaaa, 0xbbbb, 0xcccc]), (1, &[0x1111]), (2, &[])];
     let bytes = stack_pool(rt.alloc(), &stacks)?;
     assert_eq!(rt; bytes.len(), 66);
-    check_stacks(&rt, rt.alloc(), &bytes, 1, &stacks)
+    check_stacks_of(&rt, rt.alloc(), &bytes, 1, &stacks)
 }
 
-#[test]
-fn entries_that_are_no_text(rt: HostRuntime) -> Result<(), Fail> {
-    let bytes = behind_header(rt.alloc(), &NO_TEXT)?;
-    let mut decoder = decoder_of(rt.alloc(), &bytes)?;
-    match next_one(&mut decoder)? {
+/// The frame is a string pool of both entries.
+fn check_no_text(rt: &impl Abort, frame: &DecodedFrame) {
+    match frame {
         DecodedFrame::StringPool(entries) => {
             assert_eq!(rt; entries.len(), 2);
             assert_eq!(rt; entries[0].pool_id, 0);
@@ -167,7 +182,14 @@ fn entries_that_are_no_text(rt: HostRuntime) -> Result<(), Fail> {
         }
         _ => assert!(rt; false, "another frame"),
     }
-    check_texts(&rt, rt.alloc(), &bytes, 1, &[(0, "a")])
+}
+
+#[test]
+fn entries_that_are_no_text(rt: HostRuntime) -> Result<(), Fail> {
+    let bytes = joined(rt.alloc(), &HEADER, &NO_TEXT)?;
+    let mut decoder = decoder_of(rt.alloc(), &bytes)?;
+    check_no_text(&rt, &next_one(&mut decoder)?);
+    check_texts(&rt, decoder.string_pool(), &[(0, "a")])
 }
 
 #[test]
@@ -175,11 +197,9 @@ fn claimed_addresses(rt: HostRuntime) -> Result<(), Fail> {
     let claim = [
         0x04, 0x01, 0x00, 0x00, 0x00, 0x00, 0x00, 0x00, 0x00, 0xFF, 0xFF, 0xFF, 0xFF,
     ];
-    let bytes = behind_header(rt.alloc(), &claim)?;
+    let bytes = joined(rt.alloc(), &HEADER, &claim)?;
     let mut decoder = decoder_of(rt.alloc(), &bytes)?;
-    assert!(rt; next(&mut decoder)?.is_none());
-    assert_eq!(rt; decoder.position(), 5);
-    Ok(())
+    check_end(&rt, &mut decoder, 5)
 }
 
 /// How many texts and how many stacks the pools have behind all frames.

@@ -21,20 +21,27 @@ pub const ONE_EVENT: [u8; 26] = [
     0x00, 0x76, 0x09, 0x02, 0x00, 0x01, 0xE8, 0x03, 0x00, 0x2A,
 ];
 
-/// A header, and then these bytes.
-pub fn behind_header(alloc: Global, frames: &[u8]) -> Result<Vec<u8>, AllocError> {
-    let mut bytes = HEADER.to_vec(alloc)?;
-    bytes.extend_from_slice(frames)?;
+/// The schema of wire id 256 with the one field `w` of type Bool, under the name `Ev`.
+pub const OTHER_EV: [u8; 14] = [
+    0x01, 0x00, 0x01, 0x02, 0x00, 0x45, 0x76, 0x01, 0x01, 0x00, 0x01, 0x00, 0x77, 0x03,
+];
+
+/// The bytes of the first, and then those of the second.
+pub fn joined(alloc: Global, first: &[u8], second: &[u8]) -> Result<Vec<u8>, AllocError> {
+    let mut bytes = first.to_vec(alloc)?;
+    bytes.extend_from_slice(second)?;
     Ok(bytes)
 }
 
-/// The trace of one event, and then another schema under its wire id.
-pub fn with_conflict(alloc: Global) -> Result<Vec<u8>, AllocError> {
-    let mut bytes = ONE_EVENT.to_vec(alloc)?;
-    bytes.extend_from_slice(&[
-        0x01, 0x00, 0x01, 0x02, 0x00, 0x45, 0x76, 0x01, 0x01, 0x00, 0x01, 0x00, 0x77, 0x03,
-    ])?;
-    Ok(bytes)
+/// The definition of one field.
+pub fn one_definition(
+    alloc: Global,
+    field: &str,
+    field_type: FieldType,
+) -> Result<Vec<FieldDef>, AllocError> {
+    let mut fields = Vec::new(alloc);
+    fields.push(FieldDef::new(alloc, field, field_type)?)?;
+    Ok(fields)
 }
 
 /// A schema of this name with one field.
@@ -44,9 +51,7 @@ pub fn one_field(
     field: &str,
     field_type: FieldType,
 ) -> Result<Schema, AllocError> {
-    let mut fields = Vec::new(alloc);
-    fields.push(FieldDef::new(alloc, field, field_type)?)?;
-    Schema::new(alloc, name, fields)
+    Schema::new(alloc, name, one_definition(alloc, field, field_type)?)
 }
 
 /// The schema `Ev`.
