@@ -69,7 +69,7 @@ fn check_texts(rt: &impl Abort, pool: &StringPool, texts: &[(u32, &str)]) -> Res
         assert_eq!(rt; pool.get(held_id), Some(*text));
     }
     assert!(rt; held.next().is_none());
-    assert_eq!(rt; pool.get(InternedString::from_raw(2)), None);
+    assert_eq!(rt; pool.get(InternedString::from_raw(7)), None);
     Ok(())
 }
 
@@ -97,7 +97,7 @@ fn check_stacks(rt: &impl Abort, pool: &StackPool, stacks: &[(u32, &[u64])]) -> 
         assert_eq!(rt; pool.get(held_id), Some(*stack));
     }
     assert!(rt; held.next().is_none());
-    assert_eq!(rt; pool.get(InternedStackFrames::from_raw(3)), None);
+    assert_eq!(rt; pool.get(InternedStackFrames::from_raw(7)), None);
     Ok(())
 }
 
@@ -193,6 +193,25 @@ fn entries_that_are_no_text(rt: HostRuntime) -> Result<(), Fail> {
 }
 
 #[test]
+fn greatest_id_of_a_text(rt: HostRuntime) -> Result<(), Fail> {
+    let pool = [
+        0x03, 0x01, 0x00, 0x00, 0x00, 0xFF, 0xFF, 0xFF, 0xFF, 0x01, 0x00, 0x00, 0x00, 0x78,
+    ];
+    let bytes = joined(rt.alloc(), &HEADER, &pool)?;
+    check_texts_of(&rt, rt.alloc(), &bytes, 1, &[(4_294_967_295, "x")])
+}
+
+#[test]
+fn one_text_under_two_ids(rt: HostRuntime) -> Result<(), Fail> {
+    let pool = [
+        0x03, 0x02, 0x00, 0x00, 0x00, 0x05, 0x00, 0x00, 0x00, 0x01, 0x00, 0x00, 0x00, 0x78, 0x02,
+        0x00, 0x00, 0x00, 0x01, 0x00, 0x00, 0x00, 0x78,
+    ];
+    let bytes = joined(rt.alloc(), &HEADER, &pool)?;
+    check_texts_of(&rt, rt.alloc(), &bytes, 1, &[(2, "x"), (5, "x")])
+}
+
+#[test]
 fn claimed_addresses(rt: HostRuntime) -> Result<(), Fail> {
     let claim = [
         0x04, 0x01, 0x00, 0x00, 0x00, 0x00, 0x00, 0x00, 0x00, 0xFF, 0xFF, 0xFF, 0xFF,
@@ -231,5 +250,8 @@ fn lines_of_pools(rt: HostRuntime) -> Result<(), Fail> {
     let bytes = text_and_stack(rt.alloc(), "io", &[0, 16])?;
     let lines = "trace version 1\nstrings 0:\"io\"\nstacks 0:[0x0,0x10]\nend whole\n";
     check_dump(&rt, rt.alloc(), &bytes, WHOLE, lines);
+    let no_text = joined(rt.alloc(), &HEADER, &NO_TEXT)?;
+    let lines = "trace version 1\nstrings 0:\"a\" 0:\"\\xFF\"\nend whole\n";
+    check_dump(&rt, rt.alloc(), &no_text, WHOLE, lines);
     Ok(())
 }
