@@ -1,9 +1,13 @@
 //! Worked examples of the format.
 
 mod annotations;
+mod calls;
+mod checks;
+mod copies;
 mod dumps;
 mod example;
 mod fields;
+mod frames;
 mod iterators;
 mod numbers;
 mod pools;

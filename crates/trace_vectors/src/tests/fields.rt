@@ -1,18 +1,20 @@
 //! Fields of events: values written by the type of their field.
 
+use crate::tests::calls::{all_of, put_event, register_new};
+use crate::tests::checks::{check_all, check_refused};
 use crate::tests::traces::{HEADER, nested_lists, one_field};
-use dial9_trace_format::decoder::{DecodedFrame, Decoder};
+use dial9_trace_format::decoder::DecodedFrame;
 use dial9_trace_format::encoder::{Encoder, Schema};
 use dial9_trace_format::leb128::EncodeError;
 use dial9_trace_format::schema::FieldDef;
 use dial9_trace_format::types::{FieldType, FieldValue, StackFrames};
-use std::alloc::Global;
+use std::alloc::{AllocError, Global};
+use std::process::Abort;
 use std::test::Fail;
 
 /// The values of the last frame of a trace, an event.
 fn last_values(alloc: Global, bytes: &[u8]) -> Result<Vec<FieldValue>, Fail> {
-    let mut decoder = Decoder::new(alloc, bytes).ok_or("no header")?;
-    let mut frames = decoder.decode_all()?;
+    let mut frames = all_of(alloc, bytes)?;
     match frames.pop() {
         Some(
             DecodedFrame::Event {
@@ -25,156 +27,192 @@ fn last_values(alloc: Global, bytes: &[u8]) -> Result<Vec<FieldValue>, Fail> {
     }
 }
 
+/// The last frame of the trace is an event of this value alone.
+fn check_value(
+    rt: &impl Abort,
+    alloc: Global,
+    bytes: &[u8],
+    value: &FieldValue,
+) -> Result<(), Fail> {
+    let values = last_values(alloc, bytes)?;
+    assert_eq!(rt; values.len(), 1);
+    assert!(rt; values[0] == *value);
+    Ok(())
+}
+
+/// The encoder refuses the value for field 0, and writes nothing.
+fn check_misfit(rt: &impl Abort, encoder: &mut Encoder, schema: &Schema, value: FieldValue) {
+    let misfit = EncodeError::Misfit { field: 0 };
+    check_refused(rt, encoder, schema, &[value], misfit);
+}
+
 #[test]
 fn numbers_of_two_bytes(rt: HostRuntime) -> Result<(), Fail> {
-    let alloc = rt.alloc();
-    let schema = one_field(alloc, "S", "n", FieldType::U16)?;
-    let mut encoder = Encoder::new(alloc)?;
-    encoder.write_event(&schema, 0, &[FieldValue::Varint(300)])?;
+    let schema = one_field(rt.alloc(), "S", "n", FieldType::U16)?;
+    let mut encoder = Encoder::new(rt.alloc())?;
+    put_event(&mut encoder, &schema, 0, &[FieldValue::Varint(300)])?;
     assert_eq!(rt; encoder.bytes_written(), 26);
+    check_misfit(&rt, &mut encoder, &schema, FieldValue::Varint(65_536));
+    check_misfit(&rt, &mut encoder, &schema, FieldValue::Bool(true));
+    let bytes = encoder.finish();
     let event = [0x02, 0x00, 0x01, 0x00, 0x00, 0x00, 0x2C, 0x01];
-    assert_eq!(rt;
-        encoder.as_inner().as_slice().get(18..),
-        Some(event.as_slice())
-    );
-    let misfit = Err(EncodeError::Misfit { field: 0 });
-    assert_eq!(rt;
-        encoder.write_event(&schema, 0, &[FieldValue::Varint(65_536)]),
-        misfit
-    );
-    assert_eq!(rt;
-        encoder.write_event(&schema, 0, &[FieldValue::Bool(true)]),
-        misfit
-    );
-    assert_eq!(rt; encoder.bytes_written(), 26);
-    let values = last_values(alloc, encoder.finish().as_slice())?;
-    assert_eq!(rt; values.len(), 1);
-    assert!(rt; values[0] == FieldValue::Varint(300));
-    Ok(())
+    assert_eq!(rt; bytes.as_slice().get(18..), Some(event.as_slice()));
+    check_value(&rt, rt.alloc(), &bytes, &FieldValue::Varint(300))
+}
+
+/// Events at 0 of a field `o` that may be absent: without it, and with 7.
+fn absent_and_seven(alloc: Global) -> Result<Vec<u8>, EncodeError> {
+    let schema = one_field(alloc, "S", "o", FieldType::OptionalU8)?;
+    let mut encoder = Encoder::new(alloc)?;
+    put_event(&mut encoder, &schema, 0, &[FieldValue::None])?;
+    put_event(&mut encoder, &schema, 0, &[FieldValue::Varint(7)])?;
+    Ok(encoder.finish())
 }
 
 #[test]
 fn optional_fields(rt: HostRuntime) -> Result<(), Fail> {
-    let alloc = rt.alloc();
-    let schema = one_field(alloc, "S", "o", FieldType::OptionalU8)?;
-    let mut encoder = Encoder::new(alloc)?;
-    encoder.write_event(&schema, 0, &[FieldValue::None])?;
-    encoder.write_event(&schema, 0, &[FieldValue::Varint(7)])?;
-    let events = [
-        0x02, 0x00, 0x01, 0x00, 0x00, 0x00, 0x00, 0x02, 0x00, 0x01, 0x00, 0x00, 0x00, 0x01, 0x07,
+    let mut bytes = absent_and_seven(rt.alloc())?;
+    let tag_and_events = [
+        0x8B, 0x02, 0x00, 0x01, 0x00, 0x00, 0x00, 0x00, 0x02, 0x00, 0x01, 0x00, 0x00, 0x00, 0x01,
+        0x07,
     ];
-    assert_eq!(rt; encoder.as_inner().as_slice().get(17), Some(&0x8B));
-    assert_eq!(rt;
-        encoder.as_inner().as_slice().get(18..),
-        Some(events.as_slice())
-    );
-    let mut bytes = encoder.finish();
+    assert_eq!(rt; bytes.as_slice().get(17..), Some(tag_and_events.as_slice()));
     bytes.extend_from_slice(&[0x02, 0x00, 0x01, 0x00, 0x00, 0x00, 0x02, 0x07])?;
-    let values = last_values(alloc, bytes.as_slice())?;
-    assert_eq!(rt; values.len(), 1);
-    assert!(rt; values[0] == FieldValue::Varint(7));
-    Ok(())
+    check_value(&rt, rt.alloc(), &bytes, &FieldValue::Varint(7))
+}
+
+/// A schema of a text and a byte.
+fn text_and_byte(alloc: Global) -> Result<Schema, AllocError> {
+    let mut fields = Vec::new(alloc);
+    fields.push(FieldDef::new(alloc, "s", FieldType::String)?)?;
+    fields.push(FieldDef::new(alloc, "n", FieldType::U8)?)?;
+    Schema::new(alloc, "S", fields)
 }
 
 #[test]
 fn least_field_that_does_not_fit(rt: HostRuntime) -> Result<(), Fail> {
-    let alloc = rt.alloc();
-    let mut fields = Vec::new(alloc);
-    fields.push(FieldDef::new(alloc, "s", FieldType::String)?)?;
-    fields.push(FieldDef::new(alloc, "n", FieldType::U8)?)?;
-    let schema = Schema::new(alloc, "S", fields)?;
-    let mut encoder = Encoder::new(alloc)?;
     let two_misfits = [FieldValue::Varint(1), FieldValue::Varint(256)];
-    let first = encoder.write_event(&schema, 0, &two_misfits);
-    assert_eq!(rt; first, Err(EncodeError::Misfit { field: 0 }));
-    let one_misfit = [FieldValue::string(alloc, "hi")?, FieldValue::Varint(256)];
-    let second = encoder.write_event(&schema, 0, &one_misfit);
-    assert_eq!(rt; second, Err(EncodeError::Misfit { field: 1 }));
-    let count = encoder.write_event(&schema, 0, &[FieldValue::Varint(1)]);
-    assert_eq!(rt; count, Err(EncodeError::ValueCount));
+    let one_misfit = [
+        FieldValue::string(rt.alloc(), "hi")?,
+        FieldValue::Varint(256),
+    ];
+    let schema = text_and_byte(rt.alloc())?;
+    let mut encoder = Encoder::new(rt.alloc())?;
+    let first = EncodeError::Misfit { field: 0 };
+    check_refused(&rt, &mut encoder, &schema, &two_misfits, first);
+    let second = EncodeError::Misfit { field: 1 };
+    check_refused(&rt, &mut encoder, &schema, &one_misfit, second);
+    let too_few = [FieldValue::Varint(1)];
+    check_refused(
+        &rt,
+        &mut encoder,
+        &schema,
+        &too_few,
+        EncodeError::ValueCount,
+    );
     assert_eq!(rt; encoder.finish().as_slice(), HEADER.as_slice());
     Ok(())
 }
 
 #[test]
-fn names_of_greatest_length(rt: HostRuntime) -> Result<(), Fail> {
-    let alloc = rt.alloc();
-    let longest = "x".repeat(alloc, 65_535)?;
-    let mut encoder = Encoder::new(alloc)?;
-    encoder.register_schema(longest.as_str(), Vec::new(alloc))?;
+fn name_of_greatest_length(rt: HostRuntime) -> Result<(), Fail> {
+    let name = "x".repeat(rt.alloc(), 65_535)?;
+    let mut encoder = Encoder::new(rt.alloc())?;
+    register_new(&mut encoder, name.as_str(), Vec::new(rt.alloc()))?;
     assert_eq!(rt; encoder.bytes_written(), 65_548);
-    let longer = "x".repeat(alloc, 65_536)?;
-    let mut encoder = Encoder::new(alloc)?;
-    let refused = encoder.register_schema(longer.as_str(), Vec::new(alloc));
+    Ok(())
+}
+
+#[test]
+fn name_past_the_greatest_length(rt: HostRuntime) -> Result<(), Fail> {
+    let name = "x".repeat(rt.alloc(), 65_536)?;
+    let mut encoder = Encoder::new(rt.alloc())?;
+    let refused = register_new(&mut encoder, name.as_str(), Vec::new(rt.alloc()));
     assert!(rt; matches!(refused, Err(EncodeError::TooLong)));
     assert_eq!(rt; encoder.bytes_written(), 5);
     Ok(())
 }
 
-#[test]
-fn depth_of_lists(rt: HostRuntime) -> Result<(), Fail> {
-    let alloc = rt.alloc();
-    let schema = one_field(alloc, "L", "l", FieldType::DynamicList)?;
-    let mut encoder = Encoder::new(alloc)?;
-    let deep = [nested_lists(alloc, 33, false)?];
-    encoder.write_event(&schema, 0, &deep)?;
-    let misfit = Err(EncodeError::Misfit { field: 0 });
-    let deeper = [nested_lists(alloc, 34, false)?];
-    assert_eq!(rt; encoder.write_event(&schema, 0, &deeper), misfit);
-    let filled = [nested_lists(alloc, 33, true)?];
-    assert_eq!(rt; encoder.write_event(&schema, 0, &filled), misfit);
+/// A list of nothing but an absent value.
+fn list_of_none(alloc: Global) -> Result<FieldValue, AllocError> {
     let mut items = Vec::new(alloc);
     items.push(FieldValue::None)?;
-    let absent = [FieldValue::List(items)];
-    assert_eq!(rt; encoder.write_event(&schema, 0, &absent), misfit);
-    let values = last_values(alloc, encoder.finish().as_slice())?;
-    assert_eq!(rt; values.len(), 1);
-    assert!(rt; values[0] == deep[0]);
+    Ok(FieldValue::List(items))
+}
+
+#[test]
+fn lists_that_do_not_fit(rt: HostRuntime) -> Result<(), Fail> {
+    let schema = one_field(rt.alloc(), "L", "l", FieldType::DynamicList)?;
+    let mut encoder = Encoder::new(rt.alloc())?;
+    let deeper = nested_lists(rt.alloc(), 34, false)?;
+    check_misfit(&rt, &mut encoder, &schema, deeper);
+    let filled = nested_lists(rt.alloc(), 33, true)?;
+    check_misfit(&rt, &mut encoder, &schema, filled);
+    let absent = list_of_none(rt.alloc())?;
+    check_misfit(&rt, &mut encoder, &schema, absent);
+    assert_eq!(rt; encoder.bytes_written(), 5);
     Ok(())
+}
+
+/// What an encoder writes for an event at 0 of these values, of a field of this type.
+fn event_of(
+    alloc: Global,
+    field_type: FieldType,
+    values: &[FieldValue],
+) -> Result<Vec<u8>, EncodeError> {
+    let schema = one_field(alloc, "K", "f", field_type)?;
+    let mut encoder = Encoder::new(alloc)?;
+    put_event(&mut encoder, &schema, 0, values)?;
+    Ok(encoder.finish())
+}
+
+#[test]
+fn deepest_list(rt: HostRuntime) -> Result<(), Fail> {
+    let values = [nested_lists(rt.alloc(), 33, false)?];
+    let bytes = event_of(rt.alloc(), FieldType::DynamicList, &values)?;
+    check_value(&rt, rt.alloc(), &bytes, &values[0])
 }
 
 #[test]
 fn bad_text_in_an_event(rt: HostRuntime) -> Result<(), Fail> {
-    let alloc = rt.alloc();
     let bytes = [
         0x54, 0x52, 0x43, 0x00, 0x01, 0x01, 0x00, 0x01, 0x01, 0x00, 0x53, 0x01, 0x01, 0x00, 0x01,
         0x00, 0x73, 0x04, 0x02, 0x00, 0x01, 0x00, 0x00, 0x00, 0x01, 0x00, 0x00, 0x00, 0xFF,
     ];
-    let mut decoder = Decoder::new(alloc, &bytes).ok_or("no header")?;
-    assert_eq!(rt; decoder.decode_all()?.len(), 2);
-    assert_eq!(rt; decoder.position(), 29);
-    let values = last_values(alloc, &bytes)?;
-    assert_eq!(rt; values.len(), 1);
-    assert!(rt; values[0] == FieldValue::string(alloc, "\u{FFFD}")?);
-    Ok(())
+    check_all(&rt, rt.alloc(), &bytes, 2, 29)?;
+    let text = FieldValue::string(rt.alloc(), "\u{FFFD}")?;
+    check_value(&rt, rt.alloc(), &bytes, &text)
+}
+
+/// So many addresses.
+fn addresses(alloc: Global, count: usize) -> Result<FieldValue, AllocError> {
+    let frames = StackFrames::from_slice(alloc, &vec![in alloc; 7; count]?)?;
+    Ok(FieldValue::StackFrames(frames))
 }
 
 #[test]
 fn a_million_and_one_addresses(rt: HostRuntime) -> Result<(), Fail> {
-    let alloc = rt.alloc();
-    let schema = one_field(alloc, "K", "f", FieldType::StackFrames)?;
-    let mut encoder = Encoder::new(alloc)?;
-    let frames = StackFrames::from_slice(alloc, &vec![in alloc; 7; 1_000_001]?)?;
-    let values = [FieldValue::StackFrames(frames)];
-    encoder.write_event(&schema, 0, &values)?;
-    assert_eq!(rt; encoder.bytes_written(), 8_000_036);
-    let read = last_values(alloc, encoder.finish().as_slice())?;
-    assert_eq!(rt; read.len(), 1);
-    assert!(rt; read[0] == values[0]);
-    Ok(())
+    let values = [addresses(rt.alloc(), 1_000_001)?];
+    let bytes = event_of(rt.alloc(), FieldType::StackFrames, &values)?;
+    assert_eq!(rt; bytes.len(), 8_000_036);
+    check_value(&rt, rt.alloc(), &bytes, &values[0])
+}
+
+/// So many empty pairs.
+fn empty_pairs(alloc: Global, count: u32) -> Result<FieldValue, AllocError> {
+    let mut pairs = Vec::new(alloc);
+    for _ in 0..count {
+        pairs.push((Vec::new(alloc), Vec::new(alloc)))?;
+    }
+    Ok(FieldValue::StringMap(pairs))
 }
 
 #[test]
 fn a_million_and_one_pairs(rt: HostRuntime) -> Result<(), Fail> {
-    let alloc = rt.alloc();
-    let schema = one_field(alloc, "M", "m", FieldType::StringMap)?;
-    let mut pairs = Vec::new(alloc);
-    for _ in 0..1_000_001u32 {
-        pairs.push((Vec::new(alloc), Vec::new(alloc)))?;
-    }
-    let mut encoder = Encoder::new(alloc)?;
-    let refused = encoder.write_event(&schema, 0, &[FieldValue::StringMap(pairs)]);
-    assert_eq!(rt; refused, Err(EncodeError::Misfit { field: 0 }));
+    let schema = one_field(rt.alloc(), "M", "m", FieldType::StringMap)?;
+    let mut encoder = Encoder::new(rt.alloc())?;
+    let pairs = empty_pairs(rt.alloc(), 1_000_001)?;
+    check_misfit(&rt, &mut encoder, &schema, pairs);
     assert_eq!(rt; encoder.bytes_written(), 5);
     Ok(())
 }

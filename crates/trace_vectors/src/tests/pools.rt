@@ -1,156 +1,178 @@
 //! Pools of texts and of stacks, and interning.
 
-use crate::tests::traces::HEADER;
+use crate::tests::calls::{
+    all, decoder_of, intern, intern_stack, next_one, put_stacks, put_strings,
+};
+use crate::tests::checks::{check_dump, check_end};
+use crate::tests::traces::{HEADER, joined};
 use dial9_trace_format::codec::{PoolEntry, StackPoolEntry};
-use dial9_trace_format::decoder::{DecodedFrame, Decoder};
+use dial9_trace_format::decoder::{DecodedFrame, StackPool, StringPool};
 use dial9_trace_format::encoder::Encoder;
 use dial9_trace_format::types::{InternedStackFrames, InternedString};
 use std::alloc::{AllocError, Global};
+use std::process::Abort;
 use std::test::Fail;
-use trace_lines::dump::{WHOLE, dump};
+use trace_lines::dump::WHOLE;
 
-fn behind_header(alloc: Global, frames: &[u8]) -> Result<Vec<u8>, AllocError> {
-    let mut bytes = HEADER.to_vec(alloc)?;
-    bytes.extend_from_slice(frames)?;
-    Ok(bytes)
+/// A header, and the pool frame of `hello` under 0.
+const HELLO: [u8; 23] = [
+    0x54, 0x52, 0x43, 0x00, 0x01, 0x03, 0x01, 0x00, 0x00, 0x00, 0x00, 0x00, 0x00, 0x00, 0x05, 0x00,
+    0x00, 0x00, 0x68, 0x65, 0x6C, 0x6C, 0x6F,
+];
+
+/// A header, and the pool frame of the empty stack under 0.
+const EMPTY_STACK: [u8; 18] = [
+    0x54, 0x52, 0x43, 0x00, 0x01, 0x04, 0x01, 0x00, 0x00, 0x00, 0x00, 0x00, 0x00, 0x00, 0x00, 0x00,
+    0x00, 0x00,
+];
+
+/// A string pool frame of `a` under 0 and then of bytes that are no text.
+const NO_TEXT: [u8; 23] = [
+    0x03, 0x02, 0x00, 0x00, 0x00, 0x00, 0x00, 0x00, 0x00, 0x01, 0x00, 0x00, 0x00, 0x61, 0x00, 0x00,
+    0x00, 0x00, 0x01, 0x00, 0x00, 0x00, 0xFF,
+];
+
+/// The encoder answers this id for the text, and has then written so many bytes.
+fn check_text(
+    rt: &impl Abort,
+    encoder: &mut Encoder,
+    text: &str,
+    id: u32,
+    count: u64,
+) -> Result<(), Fail> {
+    assert_eq!(rt; intern(encoder, text)?.raw_id(), id);
+    assert_eq!(rt; encoder.bytes_written(), count);
+    Ok(())
+}
+
+/// The encoder answers this id for the stack, and has then written so many bytes.
+fn check_stack(
+    rt: &impl Abort,
+    encoder: &mut Encoder,
+    stack: &[u64],
+    id: u32,
+    count: u64,
+) -> Result<(), Fail> {
+    assert_eq!(rt; intern_stack(encoder, stack)?.raw_id(), id);
+    assert_eq!(rt; encoder.bytes_written(), count);
+    Ok(())
+}
+
+/// The pool holds these texts by rising id, and no others.
+fn check_texts(rt: &impl Abort, pool: &StringPool, texts: &[(u32, &str)]) -> Result<(), Fail> {
+    assert_eq!(rt; pool.len(), texts.len());
+    let mut held = pool.iter();
+    for (id, text) in texts {
+        let (held_id, held_text) = held.next().ok_or("no text")?;
+        assert_eq!(rt; held_id.raw_id(), *id);
+        assert_eq!(rt; held_text, *text);
+        assert_eq!(rt; pool.get(held_id), Some(*text));
+    }
+    assert!(rt; held.next().is_none());
+    assert_eq!(rt; pool.get(InternedString::from_raw(7)), None);
+    Ok(())
+}
+
+/// The trace has so many frames, and behind them its pool holds these texts by rising id, and no others.
+fn check_texts_of(
+    rt: &impl Abort,
+    alloc: Global,
+    bytes: &[u8],
+    frames: usize,
+    texts: &[(u32, &str)],
+) -> Result<(), Fail> {
+    let mut decoder = decoder_of(alloc, bytes)?;
+    assert_eq!(rt; all(&mut decoder)?.len(), frames);
+    check_texts(rt, decoder.string_pool(), texts)
+}
+
+/// The pool holds these stacks by rising id, and no others.
+fn check_stacks(rt: &impl Abort, pool: &StackPool, stacks: &[(u32, &[u64])]) -> Result<(), Fail> {
+    assert_eq!(rt; pool.len(), stacks.len());
+    let mut held = pool.iter();
+    for (id, stack) in stacks {
+        let (held_id, addresses) = held.next().ok_or("no stack")?;
+        assert_eq!(rt; held_id.raw_id(), *id);
+        assert_eq!(rt; addresses, *stack);
+        assert_eq!(rt; pool.get(held_id), Some(*stack));
+    }
+    assert!(rt; held.next().is_none());
+    assert_eq!(rt; pool.get(InternedStackFrames::from_raw(7)), None);
+    Ok(())
+}
+
+/// The trace has so many frames, and behind them its pool holds these stacks by rising id, and no others.
+fn check_stacks_of(
+    rt: &impl Abort,
+    alloc: Global,
+    bytes: &[u8],
+    frames: usize,
+    stacks: &[(u32, &[u64])],
+) -> Result<(), Fail> {
+    let mut decoder = decoder_of(alloc, bytes)?;
+    assert_eq!(rt; all(&mut decoder)?.len(), frames);
+    check_stacks(rt, decoder.stack_pool(), stacks)
+}
+
+/// Writes a pool of one text.
+fn put_text(alloc: Global, encoder: &mut Encoder, id: u32, text: &[u8]) -> Result<(), Fail> {
+    let entry = PoolEntry {
+        pool_id: id,
+        bytes: text.to_vec(alloc)?,
+    };
+    put_strings(encoder, &[entry])?;
+    Ok(())
 }
 
 #[test]
 fn interned_texts(rt: HostRuntime) -> Result<(), Fail> {
-    let hello = [
-        0x03, 0x01, 0x00, 0x00, 0x00, 0x00, 0x00, 0x00, 0x00, 0x05, 0x00, 0x00, 0x00, 0x68, 0x65,
-        0x6C, 0x6C, 0x6F,
-    ];
     let mut encoder = Encoder::new(rt.alloc())?;
-    assert_eq!(rt;
-        encoder.intern_string("hello")?,
-        InternedString::from_raw(0)
-    );
-    let written = behind_header(rt.alloc(), &hello)?;
-    assert_eq!(rt; encoder.as_inner().as_slice(), written.as_slice());
-    assert_eq!(rt;
-        encoder.intern_string("hello")?,
-        InternedString::from_raw(0)
-    );
-    assert_eq!(rt; encoder.bytes_written(), 23);
-    assert_eq!(rt;
-        encoder.intern_string("world")?,
-        InternedString::from_raw(1)
-    );
-    assert_eq!(rt; encoder.bytes_written(), 41);
-    let mut entries = Vec::new(rt.alloc());
-    entries.push(PoolEntry {
-        pool_id: 0,
-        bytes: b"b".to_vec(rt.alloc())?,
-    })?;
-    encoder.write_string_pool(&entries)?;
-    assert_eq!(rt;
-        encoder.intern_string("hello")?,
-        InternedString::from_raw(0)
-    );
-    assert_eq!(rt; encoder.bytes_written(), 55);
+    check_text(&rt, &mut encoder, "hello", 0, 23)?;
+    assert_eq!(rt; encoder.as_inner().as_slice(), HELLO.as_slice());
+    check_text(&rt, &mut encoder, "hello", 0, 23)?;
+    check_text(&rt, &mut encoder, "world", 1, 41)?;
+    put_text(rt.alloc(), &mut encoder, 0, b"b")?;
+    check_text(&rt, &mut encoder, "hello", 0, 55)?;
     let bytes = encoder.finish();
-    let mut decoder = Decoder::new(rt.alloc(), &bytes).ok_or("no header")?;
-    assert_eq!(rt; decoder.decode_all()?.len(), 3);
-    assert_eq!(rt;
-        decoder.string_pool().get(InternedString::from_raw(0)),
-        Some("b")
-    );
-    assert_eq!(rt;
-        decoder.string_pool().get(InternedString::from_raw(1)),
-        Some("world")
-    );
-    assert_eq!(rt;
-        decoder.string_pool().get(InternedString::from_raw(2)),
-        None
-    );
-    assert_eq!(rt; decoder.string_pool().len(), 2);
-    Ok(())
+    check_texts_of(&rt, rt.alloc(), &bytes, 3, &[(0, "b"), (1, "world")])
 }
 
 #[test]
 fn interned_stacks(rt: HostRuntime) -> Result<(), Fail> {
     let mut encoder = Encoder::new(rt.alloc())?;
-    assert_eq!(rt;
-        encoder.intern_stack_frames(&[])?,
-        InternedStackFrames::from_raw(0)
-    );
-    let empty = [
-        0x04, 0x01, 0x00, 0x00, 0x00, 0x00, 0x00, 0x00, 0x00, 0x00, 0x00, 0x00, 0x00,
-    ];
-    let written = behind_header(rt.alloc(), &empty)?;
-    assert_eq!(rt; encoder.as_inner().as_slice(), written.as_slice());
-    assert_eq!(rt;
-        encoder.intern_stack_frames(&[16, 32])?,
-        InternedStackFrames::from_raw(1)
-    );
-    assert_eq!(rt;
-        encoder.intern_stack_frames(&[])?,
-        InternedStackFrames::from_raw(0)
-    );
-    assert_eq!(rt; encoder.bytes_written(), 47);
+    check_stack(&rt, &mut encoder, &[], 0, 18)?;
+    assert_eq!(rt; encoder.as_inner().as_slice(), EMPTY_STACK.as_slice());
+    check_stack(&rt, &mut encoder, &[16, 32], 1, 47)?;
+    check_stack(&rt, &mut encoder, &[], 0, 47)?;
     let bytes = encoder.finish();
-    let mut decoder = Decoder::new(rt.alloc(), &bytes).ok_or("no header")?;
-    assert_eq!(rt; decoder.decode_all()?.len(), 2);
-    assert_eq!(rt;
-        decoder
-            .stack_pool()
-            .get(InternedStackFrames::from_raw(0))
-            .ok_or("no stack")?
-            .len(),
-        0
-    );
-    let stack = decoder
-        .stack_pool()
-        .get(InternedStackFrames::from_raw(1))
-        .ok_or("no stack")?;
-    assert_eq!(rt; stack, [16u64, 32].as_slice());
-    Ok(())
+    check_stacks_of(&rt, rt.alloc(), &bytes, 2, &[(0, &[]), (1, &[16, 32])])
+}
+
+/// What an encoder writes for one pool of these stacks.
+fn stack_pool(alloc: Global, stacks: &[(u32, &[u64])]) -> Result<Vec<u8>, Fail> {
+    let mut entries = Vec::new(alloc);
+    for (id, stack) in stacks {
+        entries.push(StackPoolEntry {
+            pool_id: *id,
+            frames: Vec::from_slice(alloc, *stack)?,
+        })?;
+    }
+    let mut encoder = Encoder::new(alloc)?;
+    put_stacks(&mut encoder, &entries)?;
+    Ok(encoder.finish())
 }
 
 #[test]
 fn stack_pool_of_three(rt: HostRuntime) -> Result<(), Fail> {
-    let mut entries = Vec::new(rt.alloc());
-    entries.push(StackPoolEntry {
-        pool_id: 0,
-        frames: Vec::from_slice(rt.alloc(), &[0xaaaa, 0xbbbb, 0xcccc])?,
-    })?;
-    entries.push(StackPoolEntry {
-        pool_id: 1,
-        frames: Vec::from_slice(rt.alloc(), &[0x1111])?,
-    })?;
-    entries.push(StackPoolEntry {
-        pool_id: 2,
-        frames: Vec::new(rt.alloc()),
-    })?;
-    let mut encoder = Encoder::new(rt.alloc())?;
-    encoder.write_stack_pool(&entries)?;
-    assert_eq!(rt; encoder.bytes_written(), 66);
-    let bytes = encoder.finish();
-    let mut decoder = Decoder::new(rt.alloc(), &bytes).ok_or("no header")?;
-    assert!(rt; decoder.next_frame()?.is_some());
-    let mut stacks = decoder.stack_pool().iter();
-    for entry in &entries {
-        let (id, frames) = stacks.next().ok_or("no stack")?;
-        assert_eq!(rt; id, InternedStackFrames::from_raw(entry.pool_id));
-        assert_eq!(rt; frames, entry.frames.as_slice());
-    }
-    assert!(rt; stacks.next().is_none());
-    assert!(rt; decoder.next_frame()?.is_none());
-    Ok(())
+    let stacks: [(u32, &[u64]); 3] = [(0, &[0xaaaa, 0xbbbb, 0xcccc]), (1, &[0x1111]), (2, &[])];
+    let bytes = stack_pool(rt.alloc(), &stacks)?;
+    assert_eq!(rt; bytes.len(), 66);
+    check_stacks_of(&rt, rt.alloc(), &bytes, 1, &stacks)
 }
 
-#[test]
-fn entries_that_are_no_text(rt: HostRuntime) -> Result<(), Fail> {
-    let bytes = behind_header(
-        rt.alloc(),
-        &[
-            0x03, 0x02, 0x00, 0x00, 0x00, 0x00, 0x00, 0x00, 0x00, 0x01, 0x00, 0x00, 0x00, 0x61,
-            0x00, 0x00, 0x00, 0x00, 0x01, 0x00, 0x00, 0x00, 0xFF,
-        ],
-    )?;
-    let mut decoder = Decoder::new(rt.alloc(), &bytes).ok_or("no header")?;
-    match decoder.next_frame()?.ok_or("no frame")? {
+/// The frame is a string pool of both entries.
+fn check_no_text(rt: &impl Abort, frame: &DecodedFrame) {
+    match frame {
         DecodedFrame::StringPool(entries) => {
             assert_eq!(rt; entries.len(), 2);
             assert_eq!(rt; entries[0].pool_id, 0);
@@ -160,41 +182,63 @@ fn entries_that_are_no_text(rt: HostRuntime) -> Result<(), Fail> {
         }
         _ => assert!(rt; false, "another frame"),
     }
-    assert_eq!(rt;
-        decoder.string_pool().get(InternedString::from_raw(0)),
-        Some("a")
-    );
-    assert_eq!(rt; decoder.string_pool().len(), 1);
-    Ok(())
+}
+
+#[test]
+fn entries_that_are_no_text(rt: HostRuntime) -> Result<(), Fail> {
+    let bytes = joined(rt.alloc(), &HEADER, &NO_TEXT)?;
+    let mut decoder = decoder_of(rt.alloc(), &bytes)?;
+    check_no_text(&rt, &next_one(&mut decoder)?);
+    check_texts(&rt, decoder.string_pool(), &[(0, "a")])
+}
+
+#[test]
+fn greatest_id_of_a_text(rt: HostRuntime) -> Result<(), Fail> {
+    let pool = [
+        0x03, 0x01, 0x00, 0x00, 0x00, 0xFF, 0xFF, 0xFF, 0xFF, 0x01, 0x00, 0x00, 0x00, 0x78,
+    ];
+    let bytes = joined(rt.alloc(), &HEADER, &pool)?;
+    check_texts_of(&rt, rt.alloc(), &bytes, 1, &[(4_294_967_295, "x")])
+}
+
+#[test]
+fn one_text_under_two_ids(rt: HostRuntime) -> Result<(), Fail> {
+    let pool = [
+        0x03, 0x02, 0x00, 0x00, 0x00, 0x05, 0x00, 0x00, 0x00, 0x01, 0x00, 0x00, 0x00, 0x78, 0x02,
+        0x00, 0x00, 0x00, 0x01, 0x00, 0x00, 0x00, 0x78,
+    ];
+    let bytes = joined(rt.alloc(), &HEADER, &pool)?;
+    check_texts_of(&rt, rt.alloc(), &bytes, 1, &[(2, "x"), (5, "x")])
 }
 
 #[test]
 fn claimed_addresses(rt: HostRuntime) -> Result<(), Fail> {
-    let bytes = behind_header(
-        rt.alloc(),
-        &[
-            0x04, 0x01, 0x00, 0x00, 0x00, 0x00, 0x00, 0x00, 0x00, 0xFF, 0xFF, 0xFF, 0xFF,
-        ],
-    )?;
-    let mut decoder = Decoder::new(rt.alloc(), &bytes).ok_or("no header")?;
-    assert!(rt; decoder.next_frame()?.is_none());
-    assert_eq!(rt; decoder.position(), 5);
-    Ok(())
+    let claim = [
+        0x04, 0x01, 0x00, 0x00, 0x00, 0x00, 0x00, 0x00, 0x00, 0xFF, 0xFF, 0xFF, 0xFF,
+    ];
+    let bytes = joined(rt.alloc(), &HEADER, &claim)?;
+    let mut decoder = decoder_of(rt.alloc(), &bytes)?;
+    check_end(&rt, &mut decoder, 5)
 }
 
 /// How many texts and how many stacks the pools have behind all frames.
 fn pool_sizes(alloc: Global, bytes: &[u8]) -> Result<(usize, usize), Fail> {
-    let mut decoder = Decoder::new(alloc, bytes).ok_or("no header")?;
-    decoder.decode_all()?;
+    let mut decoder = decoder_of(alloc, bytes)?;
+    all(&mut decoder)?;
     Ok((decoder.string_pool().len(), decoder.stack_pool().len()))
+}
+
+/// What an encoder writes for one text and one stack.
+fn text_and_stack(alloc: Global, text: &str, stack: &[u64]) -> Result<Vec<u8>, Fail> {
+    let mut encoder = Encoder::new(alloc)?;
+    intern(&mut encoder, text)?;
+    intern_stack(&mut encoder, stack)?;
+    Ok(encoder.finish())
 }
 
 #[test]
 fn headers_empty_the_pools(rt: HostRuntime) -> Result<(), Fail> {
-    let mut encoder = Encoder::new(rt.alloc())?;
-    encoder.intern_string("io")?;
-    encoder.intern_stack_frames(&[1])?;
-    let mut bytes = encoder.finish();
+    let mut bytes = text_and_stack(rt.alloc(), "io", &[1])?;
     assert_eq!(rt; pool_sizes(rt.alloc(), &bytes)?, (1, 1));
     bytes.extend_from_slice(&HEADER)?;
     assert_eq!(rt; pool_sizes(rt.alloc(), &bytes)?, (0, 0));
@@ -203,13 +247,11 @@ fn headers_empty_the_pools(rt: HostRuntime) -> Result<(), Fail> {
 
 #[test]
 fn lines_of_pools(rt: HostRuntime) -> Result<(), Fail> {
-    let mut encoder = Encoder::new(rt.alloc())?;
-    encoder.intern_string("io")?;
-    encoder.intern_stack_frames(&[0, 16])?;
-    let bytes = encoder.finish();
-    let mut out = Vec::new(rt.alloc());
-    assert_eq!(rt; dump(rt.alloc(), &bytes, &mut out), WHOLE);
+    let bytes = text_and_stack(rt.alloc(), "io", &[0, 16])?;
     let lines = "trace version 1\nstrings 0:\"io\"\nstacks 0:[0x0,0x10]\nend whole\n";
-    assert_eq!(rt; out.as_slice(), lines.as_bytes());
+    check_dump(&rt, rt.alloc(), &bytes, WHOLE, lines);
+    let no_text = joined(rt.alloc(), &HEADER, &NO_TEXT)?;
+    let lines = "trace version 1\nstrings 0:\"a\" 0:\"\\xFF\"\nend whole\n";
+    check_dump(&rt, rt.alloc(), &no_text, WHOLE, lines);
     Ok(())
 }

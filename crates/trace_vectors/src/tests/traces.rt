@@ -1,5 +1,6 @@
 //! Traces that several tests use.
 
+use crate::tests::calls::put_event;
 use dial9_trace_format::encoder::{Encoder, Schema};
 use dial9_trace_format::leb128::EncodeError;
 use dial9_trace_format::schema::FieldDef;
@@ -20,6 +21,29 @@ pub const ONE_EVENT: [u8; 26] = [
     0x00, 0x76, 0x09, 0x02, 0x00, 0x01, 0xE8, 0x03, 0x00, 0x2A,
 ];
 
+/// The schema of wire id 256 with the one field `w` of type Bool, under the name `Ev`.
+pub const OTHER_EV: [u8; 14] = [
+    0x01, 0x00, 0x01, 0x02, 0x00, 0x45, 0x76, 0x01, 0x01, 0x00, 0x01, 0x00, 0x77, 0x03,
+];
+
+/// The bytes of the first, and then those of the second.
+pub fn joined(alloc: Global, first: &[u8], second: &[u8]) -> Result<Vec<u8>, AllocError> {
+    let mut bytes = first.to_vec(alloc)?;
+    bytes.extend_from_slice(second)?;
+    Ok(bytes)
+}
+
+/// The definition of one field.
+pub fn one_definition(
+    alloc: Global,
+    field: &str,
+    field_type: FieldType,
+) -> Result<Vec<FieldDef>, AllocError> {
+    let mut fields = Vec::new(alloc);
+    fields.push(FieldDef::new(alloc, field, field_type)?)?;
+    Ok(fields)
+}
+
 /// A schema of this name with one field.
 pub fn one_field(
     alloc: Global,
@@ -27,9 +51,7 @@ pub fn one_field(
     field: &str,
     field_type: FieldType,
 ) -> Result<Schema, AllocError> {
-    let mut fields = Vec::new(alloc);
-    fields.push(FieldDef::new(alloc, field, field_type)?)?;
-    Schema::new(alloc, name, fields)
+    Schema::new(alloc, name, one_definition(alloc, field, field_type)?)
 }
 
 /// The schema `Ev`.
@@ -42,7 +64,12 @@ pub fn written(alloc: Global, name: &str, events: &[(u64, u64)]) -> Result<Vec<u
     let schema = one_field(alloc, name, "v", FieldType::Varint)?;
     let mut encoder = Encoder::new(alloc)?;
     for event in events {
-        encoder.write_event(&schema, event.0, &[FieldValue::Varint(event.1)])?;
+        put_event(
+            &mut encoder,
+            &schema,
+            event.0,
+            &[FieldValue::Varint(event.1)],
+        )?;
     }
     Ok(encoder.finish())
 }

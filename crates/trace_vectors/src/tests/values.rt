@@ -1,6 +1,6 @@
 //! Values alone: their spelling by their own kind, and reading them back.
 
-use crate::tests::traces::nested_lists;
+use crate::tests::traces::{joined, nested_lists};
 use dial9_trace_format::leb128::EncodeError;
 use dial9_trace_format::types::{
     FieldType, FieldValue, FieldValueRef, InternedStackFrames, InternedString, StackFrames,
@@ -37,21 +37,41 @@ fn check_read(
     value: &FieldValue,
     bytes: &[u8],
 ) -> Result<(), Fail> {
-    let mut more = Vec::from_slice(alloc, bytes)?;
-    more.push(0xFF)?;
-    let (owned, rest) = FieldValue::decode(alloc, field_type, more.as_slice())?.ok_or("no value")?;
+    let more = joined(alloc, bytes, &[0xFF])?;
+    check_owned(rt, alloc, field_type, value, &more)?;
+    check_borrowed(rt, alloc, field_type, value, &more)?;
+    for cut in 0..bytes.len() {
+        check_none(rt, alloc, field_type, &bytes[..cut])?;
+    }
+    Ok(())
+}
+
+/// The reader of owned values reads the value from all bytes but one.
+fn check_owned(
+    rt: &impl Abort,
+    alloc: Global,
+    field_type: FieldType,
+    value: &FieldValue,
+    more: &[u8],
+) -> Result<(), Fail> {
+    let (owned, rest) = FieldValue::decode(alloc, field_type, more)?.ok_or("no value")?;
     assert!(rt; owned == *value);
     assert_eq!(rt; rest, [0xFF].as_slice());
-    let (borrowed, length) = FieldValueRef::decode(alloc, field_type, more.as_slice(), 0)?.ok_or(
-        "no value",
-    )?;
-    assert_eq!(rt; length, bytes.len());
+    Ok(())
+}
+
+/// The reader of borrowed values reads the value from all bytes but one.
+fn check_borrowed(
+    rt: &impl Abort,
+    alloc: Global,
+    field_type: FieldType,
+    value: &FieldValue,
+    more: &[u8],
+) -> Result<(), Fail> {
+    let (borrowed, length) = FieldValueRef::decode(alloc, field_type, more, 0)?.ok_or("no value")?;
+    assert!(rt; length < more.len());
+    assert_eq!(rt; more.len() - length, 1);
     assert!(rt; borrowed.to_owned(alloc)? == *value);
-    for cut in 0..bytes.len() {
-        let front = &bytes[..cut];
-        assert!(rt; FieldValue::decode(alloc, field_type, front)?.is_none());
-        assert!(rt; FieldValueRef::decode(alloc, field_type, front, 0)?.is_none());
-    }
     Ok(())
 }
 

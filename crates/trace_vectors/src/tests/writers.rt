@@ -3,12 +3,13 @@
 ghost use Rattle.std.specs.Prelude.{None};
 
 use crate::tests::traces::{ONE_EVENT, ev};
-use dial9_trace_format::encoder::Encoder;
+use dial9_trace_format::encoder::{Encoder, Schema};
 use dial9_trace_format::leb128::{EncodeError, TraceWrite};
 use dial9_trace_format::types::FieldValue;
 use std::alloc::Global;
 use std::io;
 use std::io::ErrorKind;
+use std::process::Abort;
 use std::test::Fail;
 
 /// Takes at most `step` bytes a call and `room` bytes in all, and then fails.
@@ -81,6 +82,21 @@ fn writer_fails_after_eight_bytes(rt: HostRuntime) -> Result<(), Fail> {
     Ok(())
 }
 
+/// The calls are answered where the writer has room for them, and what it took is a front of the trace.
+fn check_calls(rt: &impl Abort, encoder: &mut Encoder<Short>, schema: &Schema, room: usize) {
+    let registered = encoder.register_existing(schema).is_ok();
+    assert_eq!(rt; registered, room >= 19);
+    let written = encoder
+        .write_event(schema, 1_000, &[FieldValue::Varint(42)])
+        .is_ok();
+    assert_eq!(rt; written, room == 26);
+    assert_eq!(rt; encoder.bytes_written(), room as u64);
+    assert_eq!(rt;
+        Some(encoder.as_inner().taken.as_slice()),
+        ONE_EVENT.get(..room)
+    );
+}
+
 #[test]
 fn writer_fails_at_each_place(rt: HostRuntime) -> Result<(), Fail> {
     let schema = ev(rt.alloc())?;
@@ -92,14 +108,7 @@ fn writer_fails_at_each_place(rt: HostRuntime) -> Result<(), Fail> {
             }
             Ok(mut encoder) => {
                 assert!(rt; room >= 5);
-                let registered = encoder.register_existing(&schema).is_ok();
-                assert_eq!(rt; registered, room >= 19);
-                let written = encoder
-                    .write_event(&schema, 1_000, &[FieldValue::Varint(42)])
-                    .is_ok();
-                assert_eq!(rt; written, room == 26);
-                assert_eq!(rt; encoder.bytes_written(), room as u64);
-                assert_eq!(rt; encoder.as_inner().taken.as_slice(), &ONE_EVENT[..room]);
+                check_calls(&rt, &mut encoder, &schema, room);
             }
         }
     }

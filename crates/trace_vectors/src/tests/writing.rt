@@ -1,11 +1,13 @@
 //! What an encoder writes.
 
-use crate::tests::traces::{EV_SCHEMA, HEADER, ONE_EVENT, ev, one_field, written};
+use crate::tests::calls::{put_event, register, register_new, run};
+use crate::tests::checks::{check_refused, check_registered};
+use crate::tests::traces::{EV_SCHEMA, HEADER, ONE_EVENT, ev, one_definition, one_field, written};
 use dial9_trace_format::codec::WireTypeId;
-use dial9_trace_format::encoder::{Call, Encoder, Reply, run_calls};
+use dial9_trace_format::encoder::{Call, Encoder, Reply, Schema};
 use dial9_trace_format::leb128::EncodeError;
-use dial9_trace_format::schema::FieldDef;
 use dial9_trace_format::types::{FieldType, FieldValue};
+use std::alloc::{AllocError, Global};
 use std::test::Fail;
 
 #[test]
@@ -20,40 +22,64 @@ fn empty_trace(rt: HostRuntime) -> Result<(), Fail> {
 fn one_event(rt: HostRuntime) -> Result<(), Fail> {
     let schema = ev(rt.alloc())?;
     let mut encoder = Encoder::new(rt.alloc())?;
-    assert_eq!(rt; encoder.register_existing(&schema)?, WireTypeId(256));
-    assert_eq!(rt; encoder.bytes_written(), 19);
-    encoder.write_event(&schema, 1_000, &[FieldValue::Varint(42)])?;
+    check_registered(&rt, &mut encoder, &schema, 256, 19)?;
+    put_event(&mut encoder, &schema, 1_000, &[FieldValue::Varint(42)])?;
     assert_eq!(rt; encoder.bytes_written(), 26);
     assert_eq!(rt; encoder.as_inner().as_slice(), ONE_EVENT.as_slice());
     assert_eq!(rt; encoder.into_inner().as_slice(), ONE_EVENT.as_slice());
     Ok(())
 }
 
+/// The schema `Ev`, of its name and its fields, as an encoder registers it.
+fn registered_ev(alloc: Global, encoder: &mut Encoder) -> Result<Schema, EncodeError> {
+    let fields = one_definition(alloc, "v", FieldType::Varint)?;
+    register_new(encoder, "Ev", fields)
+}
+
 #[test]
-fn one_event_by_parts(rt: HostRuntime) -> Result<(), Fail> {
-    let mut fields = Vec::new(rt.alloc());
-    fields.push(FieldDef::new(rt.alloc(), "v", FieldType::Varint)?)?;
+fn schema_of_its_parts(rt: HostRuntime) -> Result<(), Fail> {
     let mut encoder = Encoder::new(rt.alloc())?;
-    let schema = encoder.register_schema("Ev", fields)?;
+    let schema = registered_ev(rt.alloc(), &mut encoder)?;
     assert_eq!(rt; schema.name(), "Ev");
     assert_eq!(rt; schema.fields().len(), 1);
-    let again = schema.clone()?;
-    encoder.write_event(&again, 1_000, &[FieldValue::Varint(42)])?;
-    assert_eq!(rt; encoder.finish().as_slice(), ONE_EVENT.as_slice());
+    assert_eq!(rt; encoder.bytes_written(), 19);
     Ok(())
+}
+
+/// An event of a copy of a registered schema.
+fn event_of_a_copy(alloc: Global) -> Result<Vec<u8>, EncodeError> {
+    let mut encoder = Encoder::new(alloc)?;
+    let schema = registered_ev(alloc, &mut encoder)?;
+    let copy = schema.clone()?;
+    put_event(&mut encoder, &copy, 1_000, &[FieldValue::Varint(42)])?;
+    Ok(encoder.finish())
+}
+
+#[test]
+fn one_event_by_parts(rt: HostRuntime) -> Result<(), Fail> {
+    assert_eq!(rt;
+        event_of_a_copy(rt.alloc())?.as_slice(),
+        ONE_EVENT.as_slice()
+    );
+    Ok(())
+}
+
+/// The schema `Ev` as a call, and then as calls an event of it and an event without values.
+fn three_calls(alloc: Global) -> Result<Vec<Call>, AllocError> {
+    let mut values = Vec::new(alloc);
+    values.push(FieldValue::Varint(42))?;
+    let mut calls = Vec::new(alloc);
+    calls.push(Call::Register(ev(alloc)?))?;
+    calls.push(Call::WriteEvent(ev(alloc)?, 1_000, values))?;
+    calls.push(Call::WriteEvent(ev(alloc)?, 1_000, Vec::new(alloc)))?;
+    Ok(calls)
 }
 
 #[test]
 fn one_event_by_calls(rt: HostRuntime) -> Result<(), Fail> {
-    let alloc = rt.alloc();
-    let mut calls = Vec::new(alloc);
-    calls.push(Call::Register(ev(alloc)?))?;
-    let mut values = Vec::new(alloc);
-    values.push(FieldValue::Varint(42))?;
-    calls.push(Call::WriteEvent(ev(alloc)?, 1_000, values))?;
-    calls.push(Call::WriteEvent(ev(alloc)?, 1_000, Vec::new(alloc)))?;
-    let mut encoder = Encoder::new(alloc)?;
-    let replies = run_calls(alloc, &mut encoder, calls.as_slice())?;
+    let calls = three_calls(rt.alloc())?;
+    let mut encoder = Encoder::new(rt.alloc())?;
+    let replies = run(rt.alloc(), &mut encoder, &calls)?;
     assert_eq!(rt; replies.len(), 3);
     assert!(rt; replies[0] == Reply::WireId(WireTypeId(256)));
     assert!(rt; replies[1] == Reply::Done);
@@ -111,31 +137,35 @@ fn wrong_count_of_values(rt: HostRuntime) -> Result<(), Fail> {
     let schema = ev(rt.alloc())?;
     let mut encoder = Encoder::new(rt.alloc())?;
     let two = [FieldValue::Varint(1), FieldValue::Varint(2)];
-    assert_eq!(rt;
-        encoder.write_event(&schema, 0, &two),
-        Err(EncodeError::ValueCount)
-    );
-    assert_eq!(rt; encoder.bytes_written(), 5);
+    check_refused(&rt, &mut encoder, &schema, &two, EncodeError::ValueCount);
     assert_eq!(rt; encoder.finish().as_slice(), HEADER.as_slice());
     Ok(())
 }
 
+/// Registers a schema of one field.
+fn register_field(
+    alloc: Global,
+    encoder: &mut Encoder,
+    name: &str,
+    field: &str,
+    field_type: FieldType,
+) -> Result<WireTypeId, EncodeError> {
+    let schema = one_field(alloc, name, field, field_type)?;
+    register(encoder, &schema)
+}
+
 #[test]
 fn registered_once(rt: HostRuntime) -> Result<(), Fail> {
-    let alloc = rt.alloc();
-    let mut encoder = Encoder::new(alloc)?;
-    assert_eq!(rt; encoder.register_existing(&ev(alloc)?)?, WireTypeId(256));
-    assert_eq!(rt; encoder.register_existing(&ev(alloc)?)?, WireTypeId(256));
-    let other = one_field(alloc, "Ev", "w", FieldType::Bool)?;
-    assert_eq!(rt;
-        encoder.register_existing(&other),
-        Err(EncodeError::Conflict)
-    );
-    let next = one_field(alloc, "Next", "v", FieldType::Varint)?;
-    assert_eq!(rt; encoder.register_existing(&next)?, WireTypeId(257));
-    assert_eq!(rt;
-        encoder.as_inner().as_slice().get(5..19),
-        Some(EV_SCHEMA.as_slice())
-    );
+    let mut encoder = Encoder::new(rt.alloc())?;
+    let first = register_field(rt.alloc(), &mut encoder, "Ev", "v", FieldType::Varint);
+    assert_eq!(rt; first, Ok(WireTypeId(256)));
+    let again = register_field(rt.alloc(), &mut encoder, "Ev", "v", FieldType::Varint);
+    assert_eq!(rt; again, Ok(WireTypeId(256)));
+    let other = register_field(rt.alloc(), &mut encoder, "Ev", "w", FieldType::Bool);
+    assert_eq!(rt; other, Err(EncodeError::Conflict));
+    let next = register_field(rt.alloc(), &mut encoder, "Next", "v", FieldType::Varint);
+    assert_eq!(rt; next, Ok(WireTypeId(257)));
+    let bytes = encoder.finish();
+    assert_eq!(rt; bytes.as_slice().get(5..19), Some(EV_SCHEMA.as_slice()));
     Ok(())
 }
