@@ -1,1 +1,3 @@
+pub mod PlayingLemmas
 pub mod ScriptLemmas
+pub mod TallyLemmas

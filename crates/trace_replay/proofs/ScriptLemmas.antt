@@ -9,7 +9,7 @@ use Rattle.std.proofs.lemmas.List.Sums.{position_or_len_is}
 use Rattle.trace_replay.specs.declared.script.call.Call.{Call}
 use Rattle.trace_replay.specs.Scripts.{Says, SayEach, lines_of, IsScript, IsFirstLine, GainsCall}
 
-not_equal : (x y : ℕ) → (x ≡ y → ⊥) → (x == y) ≡ false
+pub not_equal : (x y : ℕ) → (x ≡ y → ⊥) → (x == y) ≡ false
 not_equal x y h = grind (arith, nat_tests)
 
 -- one more line, and the call that it says

@@ -23,6 +23,23 @@ abbrev pub is_silent : List ℕ → Bool
 is_silent [] = true
 is_silent (b ∷ bs) = b == 35
 
+-- the word by which a line of the call begins
+abbrev pub word_of : Call → List ℕ
+word_of Nothing = []
+word_of (Define handle definition) = codes "define"
+word_of (Register handle) = codes "register"
+word_of (Event handle time values) = codes "event"
+word_of (DefineType handle slot definition) = codes "type"
+word_of (WriteTyped handle time values) = codes "write"
+word_of (InternString text) = codes "string"
+word_of (InternStack frames) = codes "stack"
+word_of (StringPool entries) = codes "strings"
+word_of (StackPool entries) = codes "stacks"
+word_of Reset = codes "reset"
+word_of Resume = codes "resume"
+word_of (Raw bytes) = codes "raw"
+word_of Bare = codes "bare"
+
 -- the line says the call
 abbrev pub Says : Call → List ℕ → Type 0
 Says Nothing line = is_silent line ≡ true

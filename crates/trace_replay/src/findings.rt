@@ -1,14 +1,15 @@
 //! What a recording shows of the library.
 
-ghost use Rattle.std.specs.Prelude.{◌≡◌, [], Ok, List, ℕ, IfOk};
+ghost use Rattle.std.specs.Prelude.{◌≡◌, [], Ok, List, ℕ, IfOk, string_bytes};
 ghost use Rattle.hex.specs.Hex.{decode_of};
 ghost use Rattle.trace_lines.specs.Dumps.{IsDump};
 ghost use Rattle.trace_replay.specs.Comparisons.{ended};
-ghost use Rattle.trace_replay.specs.Findings.{ShowsDump};
+ghost use Rattle.trace_replay.specs.Findings.{ShowsDump, ShowsScript};
 
 use crate::compare::{bytes_difference, lines_difference};
 use crate::player::{PlayError, Played, play};
 use crate::recording::{Calls, Recording};
+use hex::FromHexError;
 use std::alloc::{AllocError, Global};
 use trace_lines::dump::{CONFLICT, FAILED, NO_HEADER, STOPPED, WHOLE, dump};
 
@@ -32,13 +33,15 @@ pub struct Findings {
 
 /// Plays the script of a recording and dumps its trace, and compares what comes of both with the recording.
 pub fn findings_of(alloc: Global, recording: Recording<'_>) -> Result<Findings, AllocError>
-    ensures { IfOk result (λ findings. (trace : List ℕ) → decode_of recording.entry.bytes.now ≡ Ok trace → ShowsDump trace recording.entry.dump.now findings.dump) }
+    ensures script { IfOk result (λ findings. (trace : List ℕ) → decode_of recording.entry.bytes.now ≡ Ok trace → ShowsScript trace recording.entry.calls findings.script) }
+    ensures dump { IfOk result (λ findings. (trace : List ℕ) → decode_of recording.entry.bytes.now ≡ Ok trace → ShowsDump trace recording.entry.dump.now findings.dump) }
 {
     match hex::decode(alloc, recording.bytes) {
         Ok(trace) => Ok(Findings {
             script: script_outcome(alloc, recording.calls, &trace)?,
             dump: dump_outcome(alloc, recording.dump, &trace)?,
         }),
+        Err(FromHexError::OutOfMemory) => Err(AllocError),
         Err(error) => {
             let note = format!(in alloc; "the recorded bytes cannot be read: {error}")?;
             Ok(Findings {
@@ -54,7 +57,9 @@ fn script_outcome(
     alloc: Global,
     calls: Option<Calls<'_>>,
     trace: &[u8],
-) -> Result<Outcome, AllocError> {
+) -> Result<Outcome, AllocError>
+    ensures { IfOk result (ShowsScript trace.now calls.entry) }
+{
     let Some(calls) = calls else {
         return Ok(Outcome::Absent);
     };
@@ -77,7 +82,10 @@ fn played_differences(
     replies: &str,
     trace: &[u8],
     played: &Played,
-) -> Result<Vec<String>, AllocError> {
+) -> Result<Vec<String>, AllocError>
+    ensures bytes { IfOk result (λ notes. notes.items ≡ [] → trace.now ≡ played.now.bytes.items) }
+    ensures replies { IfOk result (λ notes. notes.items ≡ [] → ended replies.now ≡ string_bytes played.now.replies) }
+{
     let mut differences = Vec::new(alloc);
     if let Some(note) = bytes_difference(alloc, trace, &played.bytes)? {
         differences.push(note)?;

@@ -1,5 +1,11 @@
 //! Plays the calls of a script on an encoder.
 
+ghost use Rattle.std.specs.Prelude.{◌≡◌, ◌↔◌, ◌++◌, map, IsTrue, IfOk, OnOk, string_bytes};
+ghost use Rattle.trace_wire.specs.PoolEntries.{string_entries_of, stack_entries_of};
+ghost use Rattle.trace_writer.specs.Calls.{Action, Does, reply_from};
+ghost use Rattle.trace_replay.specs.declared.player.PlayError.TheVariants as errors;
+ghost use Rattle.trace_replay.specs.Playing.{IsOfScript, IsPlayed, Asks, Turns, action_of, entry_of, pool_stack_of, pool_text_of, playing_of, refusal_text, reply_line, schema_under, start, with_reply, with_schema};
+
 use crate::script::{Call, Definition, Fault, PoolStack, PoolText, ScriptError, script_of};
 use std::alloc::{AllocError, AllocFailed, Global};
 use thiserror::Error;
@@ -34,7 +40,9 @@ pub enum PlayError {
 
 impl PlayError {
     /// Whether the script is at fault, and not want of memory.
-    pub fn is_of_script(&self) -> bool {
+    pub fn is_of_script(&self) -> bool
+        ensures { IsTrue result ↔ IsOfScript self.now }
+    {
         match self {
             PlayError::Script(error) => error.fault != Fault::Memory,
             PlayError::LeftOut { .. } | PlayError::Unknown { .. } => true,
@@ -44,39 +52,40 @@ impl PlayError {
 }
 
 impl From<ScriptError> for PlayError {
+    ghost from_gives = { λ error e. e ≡ errors.Script error };
+
     fn from(error: ScriptError) -> PlayError {
         PlayError::Script(error)
     }
 }
 
 impl From<AllocError> for PlayError {
+    ghost from_gives = { λ _ e. e ≡ errors.Memory };
+
     fn from(_: AllocError) -> PlayError {
         PlayError::Memory
     }
 }
 
 impl<T: Drop> From<AllocFailed<T>> for PlayError {
+    ghost from_gives = { λ _ e. e ≡ errors.Memory };
+
     fn from(_: AllocFailed<T>) -> PlayError {
         PlayError::Memory
     }
 }
 
 /// Reads a script, and makes its calls in their order. A script with a call that the library has not is not begun.
-pub fn play(alloc: Global, text: &[u8]) -> Result<Played, PlayError> {
+pub fn play(alloc: Global, text: &[u8]) -> Result<Played, PlayError>
+    ensures { IfOk result (λ played. IsPlayed text.now played.bytes.items (string_bytes played.replies)) }
+{
     let script = script_of(alloc, text)?;
     admit(&script)?;
     let mut player = Player::new(alloc)?;
     for (before, call) in script.iter().enumerate() {
         player.make(before.saturating_add(1), call)?;
     }
-    let Player {
-        alloc: _,
-        encoder: _,
-        taken: _,
-        schemas: _,
-        played,
-    } = player;
-    Ok(played)
+    Ok(player.into_played())
 }
 
 // Refuses a script with a call that the library has not.
@@ -102,12 +111,11 @@ fn left_out(call: &Call) -> Option<&'static str> {
     }
 }
 
-// An encoder and what it made. The output has the first `taken` bytes of the encoder's writer.
+// An encoder and what it made: the output holds what the encoder's writer accepted, and what a script put in past it.
 #[derive(Drop)]
 struct Player {
     alloc: Global,
     encoder: Encoder,
-    taken: usize,
     schemas: Vec<Defined>,
     played: Played,
 }
@@ -120,110 +128,142 @@ struct Defined {
 }
 
 impl Player {
-    fn new(alloc: Global) -> Result<Player, PlayError> {
+    fn new(alloc: Global) -> Result<Player, PlayError>
+        ensures { IfOk result (λ player. playing_of player ≡ start) }
+    {
         let encoder = Encoder::new(alloc).map_err(PlayError::Encoder)?;
-        let mut player = Player {
+        let bytes = Vec::from_slice(alloc, encoder.as_inner())?;
+        Ok(Player {
             alloc,
             encoder,
-            taken: 0,
             schemas: Vec::new(alloc),
             played: Played {
-                bytes: Vec::new(alloc),
+                bytes,
                 replies: String::new(alloc),
             },
-        };
-        player.take_written()?;
-        Ok(player)
+        })
     }
 
     // Makes the call of a line, and notes its reply.
-    fn make(&mut self, line: usize, call: &Call) -> Result<(), PlayError> {
-        if let Call::Nothing = call {
-            return Ok(());
-        }
-        let reply = self.reply_to(line, call)?;
-        self.take_written()?;
-        push_reply(
-            &mut self.played.replies,
-            reply,
-            self.encoder.bytes_written(),
-        )?;
-        Ok(())
-    }
-
-    // Makes the call of a line, and answers the encoder's reply where the encoder was called.
-    fn reply_to(&mut self, line: usize, call: &Call) -> Result<Option<Reply>, PlayError> {
+    fn make(&mut self, line: usize, call: &Call) -> Result<(), PlayError>
+        ensures { OnOk result (Turns (playing_of self.old) call.now (playing_of self.new)) }
+    {
         match call {
-            Call::Nothing => Ok(None),
+            Call::Nothing => Ok(()),
             Call::Define { handle, definition } => {
-                let schema = schema_of(self.alloc, definition)?;
-                self.schemas.push(Defined {
-                    handle: *handle,
-                    schema,
-                })?;
-                Ok(None)
-            }
-            Call::Register { handle } => {
-                let schema = schema_at(&self.schemas, line, *handle)?;
-                Ok(Some(match self.encoder.register_existing(schema) {
-                    Ok(id) => Reply::WireId(id),
-                    Err(error) => Reply::Refused(error),
-                }))
-            }
-            Call::Event {
-                handle,
-                time,
-                values,
-            } => {
-                let schema = schema_at(&self.schemas, line, *handle)?;
-                Ok(Some(done(self.encoder.write_event(schema, *time, values))))
-            }
-            Call::InternString { text } => Ok(Some(match self.encoder.intern_string(text) {
-                Ok(id) => Reply::Text(id),
-                Err(error) => Reply::Refused(error),
-            })),
-            Call::InternStack { frames } => Ok(Some(
-                match self.encoder.intern_stack_frames(frames) {
-                    Ok(id) => Reply::Stack(id),
-                    Err(error) => Reply::Refused(error),
-                },
-            )),
-            Call::StringPool { entries } => {
-                let entries = pool_of(self.alloc, entries)?;
-                Ok(Some(done(self.encoder.write_string_pool(&entries))))
-            }
-            Call::StackPool { entries } => {
-                let entries = stack_pool_of(self.alloc, entries)?;
-                Ok(Some(done(self.encoder.write_stack_pool(&entries))))
+                self.define(*handle, definition)?;
+                self.note(None)
             }
             Call::Raw { bytes } => {
                 self.played.bytes.extend_from_slice(bytes)?;
-                Ok(None)
+                self.note(None)
             }
             Call::Bare => {
                 self.played.bytes.clear();
-                Ok(None)
+                self.note(None)
             }
-            other => Err(PlayError::LeftOut {
-                line,
-                call: other.name(),
-            }),
+            other => {
+                let reply = self.ask(line, other)?;
+                self.note(Some(reply))
+            }
         }
     }
 
-    // Appends what the encoder has written since to the output.
-    fn take_written(&mut self) -> Result<(), AllocError> {
-        let written = self.encoder.as_inner();
-        if let Some(more) = written.get(self.taken..) {
-            self.played.bytes.extend_from_slice(more)?;
-        }
-        self.taken = written.len();
+    // Appends the line of a reply to the others.
+    fn note(&mut self, reply: Option<Reply>) -> Result<(), PlayError>
+        ensures { OnOk result (playing_of self.new ≡ with_reply reply (playing_of self.old)) }
+    {
+        let written = self.encoder.bytes_written();
+        push_reply(&mut self.played.replies, reply, written)?;
         Ok(())
+    }
+
+    // Keeps the schema that a definition says.
+    fn define(&mut self, handle: u64, definition: &Definition) -> Result<(), AllocError>
+        ensures { OnOk result (playing_of self.new ≡ with_schema handle definition.now (playing_of self.old)) }
+    {
+        let schema = schema_of(self.alloc, definition)?;
+        self.schemas.push(Defined { handle, schema })?;
+        Ok(())
+    }
+
+    // Makes a call of the encoder, and appends what it sent to the output.
+    fn ask(&mut self, line: usize, call: &Call) -> Result<Reply, PlayError>
+        ensures { IfOk result (λ reply. Asks (playing_of self.old) call.now reply (playing_of self.new)) }
+    {
+        let before = self.encoder.as_inner().len();
+        let reply = reply_of(self.alloc, &mut self.encoder, &self.schemas, line, call)?;
+        let sent = &self.encoder.as_inner()[before..];
+        self.played.bytes.extend_from_slice(sent)?;
+        Ok(reply)
+    }
+
+    fn into_played(self) -> Played
+        ensures { result ≡ self.played }
+    {
+        let Player {
+            alloc: _,
+            encoder: _,
+            schemas: _,
+            played,
+        } = self;
+        played
+    }
+}
+
+// Makes the call of a line on an encoder.
+fn reply_of(
+    alloc: Global,
+    encoder: &mut Encoder,
+    schemas: &[Defined],
+    line: usize,
+    call: &Call,
+) -> Result<Reply, PlayError>
+    ensures { IfOk result (λ reply. (action : Action) × (action_of schemas.now call.now ≡ Some action) × Does (λ v. Some v.items) encoder.old action reply encoder.new) }
+{
+    match call {
+        Call::Register { handle } => {
+            let schema = schema_at(schemas, line, *handle)?;
+            Ok(match encoder.register_existing(schema) {
+                Ok(id) => Reply::WireId(id),
+                Err(error) => Reply::Refused(error),
+            })
+        }
+        Call::Event {
+            handle,
+            time,
+            values,
+        } => {
+            let schema = schema_at(schemas, line, *handle)?;
+            Ok(done(encoder.write_event(schema, *time, values)))
+        }
+        Call::InternString { text } => Ok(match encoder.intern_string(text) {
+            Ok(id) => Reply::Text(id),
+            Err(error) => Reply::Refused(error),
+        }),
+        Call::InternStack { frames } => Ok(match encoder.intern_stack_frames(frames) {
+            Ok(id) => Reply::Stack(id),
+            Err(error) => Reply::Refused(error),
+        }),
+        Call::StringPool { entries } => {
+            let entries = pool_of(alloc, entries)?;
+            Ok(done(encoder.write_string_pool(&entries)))
+        }
+        Call::StackPool { entries } => {
+            let entries = stack_pool_of(alloc, entries)?;
+            Ok(done(encoder.write_stack_pool(&entries)))
+        }
+        other => Err(PlayError::LeftOut {
+            line,
+            call: other.name(),
+        }),
     }
 }
 
 // The reply of a call that answers nothing else.
-fn done(answer: Result<(), EncodeError>) -> Reply {
+fn done(answer: Result<(), EncodeError>) -> Reply
+    ensures { result ≡ reply_from (λ _. Reply.Done) answer }
+{
     match answer {
         Ok(()) => Reply::Done,
         Err(error) => Reply::Refused(error),
@@ -231,7 +271,9 @@ fn done(answer: Result<(), EncodeError>) -> Reply {
 }
 
 // The schema that a definition says.
-fn schema_of(alloc: Global, definition: &Definition) -> Result<Schema, AllocError> {
+fn schema_of(alloc: Global, definition: &Definition) -> Result<Schema, AllocError>
+    ensures { IfOk result (λ schema. schema ≡ entry_of definition.now) }
+{
     let mut annotations = Vec::new(alloc);
     for annotation in &definition.annotations {
         annotations.push(FieldAnnotation::new(
@@ -247,7 +289,9 @@ fn schema_of(alloc: Global, definition: &Definition) -> Result<Schema, AllocErro
 }
 
 // The entries of a string pool.
-fn pool_of(alloc: Global, texts: &[PoolText]) -> Result<Vec<PoolEntry>, AllocError> {
+fn pool_of(alloc: Global, texts: &[PoolText]) -> Result<Vec<PoolEntry>, AllocError>
+    ensures { IfOk result (λ entries. string_entries_of entries.items ≡ map pool_text_of texts.now) }
+{
     let mut entries = Vec::new(alloc);
     for text in texts {
         entries.push(PoolEntry {
@@ -259,7 +303,9 @@ fn pool_of(alloc: Global, texts: &[PoolText]) -> Result<Vec<PoolEntry>, AllocErr
 }
 
 // The entries of a stack pool.
-fn stack_pool_of(alloc: Global, stacks: &[PoolStack]) -> Result<Vec<StackPoolEntry>, AllocError> {
+fn stack_pool_of(alloc: Global, stacks: &[PoolStack]) -> Result<Vec<StackPoolEntry>, AllocError>
+    ensures { IfOk result (λ entries. stack_entries_of entries.items ≡ map pool_stack_of stacks.now) }
+{
     let mut entries = Vec::new(alloc);
     for stack in stacks {
         entries.push(StackPoolEntry {
@@ -271,15 +317,23 @@ fn stack_pool_of(alloc: Global, stacks: &[PoolStack]) -> Result<Vec<StackPoolEnt
 }
 
 // The schema that was defined last under a handle.
-fn schema_at(schemas: &[Defined], line: usize, handle: u64) -> Result<&Schema, PlayError> {
-    match schemas.iter().rfind(|defined| defined.handle == handle) {
-        Some(defined) => Ok(&defined.schema),
-        None => Err(PlayError::Unknown { line, handle }),
+fn schema_at(schemas: &[Defined], line: usize, handle: u64) -> Result<&Schema, PlayError>
+    ensures { IfOk result (λ schema. schema_under schemas.now handle ≡ Some schema.now) }
+{
+    let mut found = None;
+    for defined in schemas {
+        if defined.handle == handle {
+            found = Some(&defined.schema);
+        }
     }
+    found.ok_or(PlayError::Unknown { line, handle })
 }
 
 // Appends the line of a reply, `-` where the encoder was not called.
-fn push_reply(out: &mut String, reply: Option<Reply>, written: u64) -> Result<(), AllocError> {
+#[tactic(auto, unfolding(crate::specs::Playing::reply_line))]
+fn push_reply(out: &mut String, reply: Option<Reply>, written: u64) -> Result<(), AllocError>
+    ensures { OnOk result (string_bytes out.new ≡ string_bytes out.old ++ reply_line reply written) }
+{
     match reply {
         None => out.push_str("-")?,
         Some(Reply::Done) => out.push_str("done")?,
@@ -295,7 +349,9 @@ fn push_reply(out: &mut String, reply: Option<Reply>, written: u64) -> Result<()
 }
 
 // Appends a refusal: its number and name, and the field of a misfit.
-fn push_refusal(out: &mut String, error: EncodeError) -> Result<(), AllocError> {
+fn push_refusal(out: &mut String, error: EncodeError) -> Result<(), AllocError>
+    ensures { OnOk result (string_bytes out.new ≡ string_bytes out.old ++ refusal_text error) }
+{
     match error {
         EncodeError::Conflict => out.push_str("refused 1 Conflict"),
         EncodeError::ValueCount => out.push_str("refused 2 ValueCount"),

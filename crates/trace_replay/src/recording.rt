@@ -2,6 +2,7 @@
 
 ghost use Rattle.std.specs.Prelude.{◌≡◌, ◌<◌, List, ℕ, ◌++◌, length, IfOk, IfSome, codes};
 ghost use Rattle.std.specs.List.{flat_map};
+ghost use Rattle.trace_replay.specs.declared.recording.RecordingError.TheVariants as errors;
 ghost use Rattle.trace_replay.specs.Recordings.{calls_text, making_text, recording_lines, recording_text, IsFile};
 
 use std::alloc::{AllocError, AllocFailed, Global};
@@ -41,6 +42,8 @@ pub enum RecordingError {
 }
 
 impl<T: Drop> From<AllocFailed<T>> for RecordingError {
+    ghost from_gives = { λ _ e. e ≡ errors.Memory };
+
     fn from(_: AllocFailed<T>) -> RecordingError {
         RecordingError::Memory
     }

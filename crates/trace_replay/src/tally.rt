@@ -1,5 +1,8 @@
 //! Counts of what was compared.
 
+ghost use Rattle.std.specs.Prelude.{◌≡◌, ◌<◌, ◌↔◌, ◌⊎◌, position, IsTrue, OnOk};
+ghost use Rattle.trace_replay.specs.Tallies.{counted_on, counts_of, is_named, nothing_seen, seen_in, with_name, with_outcome};
+
 use crate::findings::{Findings, Outcome};
 use std::alloc::{AllocError, Global};
 use std::fmt;
@@ -28,7 +31,11 @@ struct LeftOut {
 
 impl Tally {
     /// Nothing was compared yet.
-    pub fn new(alloc: Global) -> Tally {
+    pub fn new(alloc: Global) -> Tally
+        ensures recordings { result.recordings ≡ 0 }
+        ensures scripts { seen_in result.scripts ≡ nothing_seen }
+        ensures dumps { seen_in result.dumps ≡ nothing_seen }
+    {
         Tally {
             recordings: 0,
             scripts: Parts::new(alloc),
@@ -37,7 +44,11 @@ impl Tally {
     }
 
     /// Counts a recording.
-    pub fn add(&mut self, findings: &Findings) -> Result<(), AllocError> {
+    pub fn add(&mut self, findings: &Findings) -> Result<(), AllocError>
+        ensures recordings { OnOk result (self.new.recordings ≡ counted_on self.old.recordings 1) }
+        ensures scripts { OnOk result (seen_in self.new.scripts ≡ with_outcome findings.now.script (seen_in self.old.scripts)) }
+        ensures dumps { OnOk result (seen_in self.new.dumps ≡ with_outcome findings.now.dump (seen_in self.old.dumps)) }
+    {
         self.scripts.add(&findings.script)?;
         self.dumps.add(&findings.dump)?;
         self.recordings = self.recordings.saturating_add(1);
@@ -45,13 +56,17 @@ impl Tally {
     }
 
     /// Whether a recording differs.
-    pub fn differs(&self) -> bool {
+    pub fn differs(&self) -> bool
+        ensures { IsTrue result ↔ ((0 < self.now.scripts.differences) ⊎ (0 < self.now.dumps.differences)) }
+    {
         self.scripts.differences > 0 || self.dumps.differences > 0
     }
 }
 
 impl Parts {
-    fn new(alloc: Global) -> Parts {
+    fn new(alloc: Global) -> Parts
+        ensures { seen_in result ≡ nothing_seen }
+    {
         Parts {
             compared: 0,
             differences: 0,
@@ -59,7 +74,9 @@ impl Parts {
         }
     }
 
-    fn add(&mut self, outcome: &Outcome) -> Result<(), AllocError> {
+    fn add(&mut self, outcome: &Outcome) -> Result<(), AllocError>
+        ensures { OnOk result (seen_in self.new ≡ with_outcome outcome.now (seen_in self.old)) }
+    {
         match outcome {
             Outcome::Absent => {}
             Outcome::LeftOut(name) => leave_out(&mut self.left_out, name)?,
@@ -73,15 +90,24 @@ impl Parts {
 }
 
 // Counts one more that was left out.
-fn leave_out(left_out: &mut Vec<LeftOut>, name: &'static str) -> Result<(), AllocError> {
-    for known in left_out.iter_mut() {
-        if known.name == name {
+fn leave_out(left_out: &mut Vec<LeftOut>, name: &'static str) -> Result<(), AllocError>
+    ensures { OnOk result (counts_of left_out.new.items ≡ with_name name.now (counts_of left_out.old.items)) }
+{
+    match place_of(left_out, name) {
+        Some(place) => {
+            let known = &mut left_out[place];
             known.count = known.count.saturating_add(1);
-            return Ok(());
         }
+        None => left_out.push(LeftOut { name, count: 1 })?,
     }
-    left_out.push(LeftOut { name, count: 1 })?;
     Ok(())
+}
+
+// The first place of a name.
+fn place_of(left_out: &[LeftOut], name: &str) -> Option<usize>
+    ensures { result ≡ position (is_named name.now) left_out.now }
+{
+    left_out.iter().position(|known| known.name == name)
 }
 
 impl fmt::Display for Parts {

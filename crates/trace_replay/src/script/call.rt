@@ -1,5 +1,8 @@
 //! The calls of a script.
 
+ghost use Rattle.std.specs.Prelude.{◌≡◌};
+ghost use Rattle.trace_replay.specs.Scripts.{word_of};
+
 use crate::script::definitions::Definition;
 use crate::script::pools::{PoolStack, PoolText};
 use trace_values::types::FieldValue;
@@ -67,7 +70,9 @@ pub enum Call {
 
 impl Call {
     /// The word by which a line of the call begins, and nothing where the line asks for nothing.
-    pub fn name(&self) -> &'static str {
+    pub fn name(&self) -> &'static str
+        ensures { result.now ≡ word_of self.now }
+    {
         match self {
             Call::Nothing => "",
             Call::Define { .. } => "define",
