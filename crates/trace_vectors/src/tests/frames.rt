@@ -102,3 +102,19 @@ fn each_kind_one_by_one(rt: HostRuntime) -> Result<(), Fail> {
     check_each_kind(&rt, &six_calls(rt.alloc(), &EACH_KIND)?);
     Ok(())
 }
+
+/// The frame equals the one in this place, and no other.
+fn check_equal_alone(rt: &impl Abort, frame: &DecodedFrame, place: usize, frames: &[DecodedFrame]) {
+    for (i, other) in frames.iter().enumerate() {
+        assert_eq!(rt; *frame == *other, i == place);
+    }
+}
+
+#[test]
+fn each_kind_copied(rt: HostRuntime) -> Result<(), Fail> {
+    let frames = all_of(rt.alloc(), &EACH_KIND)?;
+    for (i, frame) in frames.iter().enumerate() {
+        check_equal_alone(&rt, &frame.clone(rt.alloc())?, i, &frames);
+    }
+    Ok(())
+}
