@@ -1,13 +1,14 @@
 //! A trace with each kind of frame.
 
 use crate::tests::annotations::{annotated, check_unit};
-use crate::tests::calls::{all_of, decoder_of, intern, intern_stack, next, put_event};
+use crate::tests::calls::{all_of, decoder_of, intern, intern_stack, next, put_event, run};
 use crate::tests::checks::{check_ev, check_event};
+use crate::tests::traces::joined;
 use dial9_trace_format::codec::WireTypeId;
 use dial9_trace_format::decoder::DecodedFrame;
-use dial9_trace_format::encoder::Encoder;
-use dial9_trace_format::types::FieldValue;
-use std::alloc::Global;
+use dial9_trace_format::encoder::{Call, Encoder, Reply};
+use dial9_trace_format::types::{FieldValue, InternedStackFrames, InternedString};
+use std::alloc::{AllocError, Global};
 use std::process::Abort;
 use std::test::Fail;
 
@@ -116,5 +117,48 @@ fn each_kind_copied(rt: HostRuntime) -> Result<(), Fail> {
     for (i, frame) in frames.iter().enumerate() {
         check_equal_alone(&rt, &frame.clone(rt.alloc())?, i, &frames);
     }
+
+/// The calls that write that trace.
+fn calls_of_frames(alloc: Global) -> Result<Vec<Call>, AllocError> {
+    let mut values = Vec::new(alloc);
+    values.push(FieldValue::Varint(42))?;
+    let mut calls = Vec::new(alloc);
+    calls.push(Call::Register(annotated(alloc)?))?;
+    calls.push(Call::WriteEvent(annotated(alloc)?, 1_000, values))?;
+    calls.push(Call::InternString(String::from_str(alloc, "hello")?))?;
+    calls.push(Call::InternStack(Vec::new(alloc)))?;
+    Ok(calls)
+}
+
+/// A call of each kind: that trace, and then a string pool and a stack pool of nothing.
+fn calls_of_each_kind(alloc: Global) -> Result<Vec<Call>, AllocError> {
+    let mut calls = calls_of_frames(alloc)?;
+    calls.push(Call::StringPool(Vec::new(alloc)))?;
+    calls.push(Call::StackPool(Vec::new(alloc)))?;
+    Ok(calls)
+}
+
+/// The replies of these calls.
+fn check_replies(rt: &impl Abort, replies: &[Reply]) {
+    let wanted = [
+        Reply::WireId(WireTypeId(256)),
+        Reply::Done,
+        Reply::Text(InternedString::from_raw(0)),
+        Reply::Stack(InternedStackFrames::from_raw(0)),
+        Reply::Done,
+        Reply::Done,
+    ];
+    assert_eq!(rt; replies, wanted.as_slice());
+}
+
+#[test]
+fn each_kind_by_calls(rt: HostRuntime) -> Result<(), Fail> {
+    let calls = calls_of_each_kind(rt.alloc())?;
+    let mut encoder = Encoder::new(rt.alloc())?;
+    let replies = run(rt.alloc(), &mut encoder, &calls)?;
+    check_replies(&rt, &replies);
+    let empty_pools = [0x03, 0x00, 0x00, 0x00, 0x00, 0x04, 0x00, 0x00, 0x00, 0x00];
+    let bytes = joined(rt.alloc(), &EACH_KIND, &empty_pools)?;
+    assert_eq!(rt; encoder.finish().as_slice(), bytes.as_slice());
     Ok(())
 }
