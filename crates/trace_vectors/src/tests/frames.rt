@@ -117,6 +117,8 @@ fn each_kind_copied(rt: HostRuntime) -> Result<(), Fail> {
     for (i, frame) in frames.iter().enumerate() {
         check_equal_alone(&rt, &frame.clone(rt.alloc())?, i, &frames);
     }
+    Ok(())
+}
 
 /// The calls that write that trace.
 fn calls_of_frames(alloc: Global) -> Result<Vec<Call>, AllocError> {
