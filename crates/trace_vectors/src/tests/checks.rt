@@ -76,10 +76,9 @@ pub fn check_registered(
     schema: &Schema,
     id: u16,
     count: u64,
-) -> Result<(), Fail> {
-    assert_eq!(rt; register(encoder, schema)?, WireTypeId(id));
+) {
+    assert_eq!(rt; register(encoder, schema), Ok(WireTypeId(id)));
     assert_eq!(rt; encoder.bytes_written(), count);
-    Ok(())
 }
 
 /// The encoder refuses an event at 0 of these values by this fault, and writes nothing.

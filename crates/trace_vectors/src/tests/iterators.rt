@@ -58,7 +58,7 @@ fn pairs_that_are_no_text(rt: HostRuntime) -> Result<(), Fail> {
 }
 
 #[test]
-fn borrowed_lists_and_maps(rt: HostRuntime) -> Result<(), Fail> {
+fn borrowed_lists(rt: HostRuntime) -> Result<(), Fail> {
     let alloc = rt.alloc();
     let list = [0x02, 0x00, 0x00, 0x00, 0x09, 0x05, 0x03, 0x01];
     match FieldValueRef::decode(alloc, FieldType::DynamicList, &list, 0)? {
@@ -72,6 +72,12 @@ fn borrowed_lists_and_maps(rt: HostRuntime) -> Result<(), Fail> {
         }
         _ => assert!(rt; false, "no list"),
     }
+    Ok(())
+}
+
+#[test]
+fn borrowed_maps(rt: HostRuntime) -> Result<(), Fail> {
+    let alloc = rt.alloc();
     let map = [0x01, 0x00, 0x00, 0x00, 0x09, 0x05, 0x03, 0x00];
     match FieldValueRef::decode(alloc, FieldType::DynamicMap, &map, 0)? {
         Some((FieldValueRef::Map(pairs), 8)) => {

@@ -33,29 +33,17 @@ const NO_TEXT: [u8; 23] = [
 ];
 
 /// The encoder answers this id for the text, and has then written so many bytes.
-fn check_text(
-    rt: &impl Abort,
-    encoder: &mut Encoder,
-    text: &str,
-    id: u32,
-    count: u64,
-) -> Result<(), Fail> {
-    assert_eq!(rt; intern(encoder, text)?.raw_id(), id);
+fn check_text(rt: &impl Abort, encoder: &mut Encoder, text: &str, id: u32, count: u64) {
+    let answer = intern(encoder, text);
+    assert_eq!(rt; answer, Ok(InternedString::from_raw(id)));
     assert_eq!(rt; encoder.bytes_written(), count);
-    Ok(())
 }
 
 /// The encoder answers this id for the stack, and has then written so many bytes.
-fn check_stack(
-    rt: &impl Abort,
-    encoder: &mut Encoder,
-    stack: &[u64],
-    id: u32,
-    count: u64,
-) -> Result<(), Fail> {
-    assert_eq!(rt; intern_stack(encoder, stack)?.raw_id(), id);
+fn check_stack(rt: &impl Abort, encoder: &mut Encoder, stack: &[u64], id: u32, count: u64) {
+    let answer = intern_stack(encoder, stack);
+    assert_eq!(rt; answer, Ok(InternedStackFrames::from_raw(id)));
     assert_eq!(rt; encoder.bytes_written(), count);
-    Ok(())
 }
 
 /// The pool holds these texts by rising id, and no others.
@@ -127,12 +115,12 @@ fn put_text(alloc: Global, encoder: &mut Encoder, id: u32, text: &[u8]) -> Resul
 #[test]
 fn interned_texts(rt: HostRuntime) -> Result<(), Fail> {
     let mut encoder = Encoder::new(rt.alloc())?;
-    check_text(&rt, &mut encoder, "hello", 0, 23)?;
+    check_text(&rt, &mut encoder, "hello", 0, 23);
     assert_eq!(rt; encoder.as_inner().as_slice(), HELLO.as_slice());
-    check_text(&rt, &mut encoder, "hello", 0, 23)?;
-    check_text(&rt, &mut encoder, "world", 1, 41)?;
+    check_text(&rt, &mut encoder, "hello", 0, 23);
+    check_text(&rt, &mut encoder, "world", 1, 41);
     put_text(rt.alloc(), &mut encoder, 0, b"b")?;
-    check_text(&rt, &mut encoder, "hello", 0, 55)?;
+    check_text(&rt, &mut encoder, "hello", 0, 55);
     let bytes = encoder.finish();
     check_texts_of(&rt, rt.alloc(), &bytes, 3, &[(0, "b"), (1, "world")])
 }
@@ -140,10 +128,10 @@ fn interned_texts(rt: HostRuntime) -> Result<(), Fail> {
 #[test]
 fn interned_stacks(rt: HostRuntime) -> Result<(), Fail> {
     let mut encoder = Encoder::new(rt.alloc())?;
-    check_stack(&rt, &mut encoder, &[], 0, 18)?;
+    check_stack(&rt, &mut encoder, &[], 0, 18);
     assert_eq!(rt; encoder.as_inner().as_slice(), EMPTY_STACK.as_slice());
-    check_stack(&rt, &mut encoder, &[16, 32], 1, 47)?;
-    check_stack(&rt, &mut encoder, &[], 0, 47)?;
+    check_stack(&rt, &mut encoder, &[16, 32], 1, 47);
+    check_stack(&rt, &mut encoder, &[], 0, 47);
     let bytes = encoder.finish();
     check_stacks_of(&rt, rt.alloc(), &bytes, 2, &[(0, &[]), (1, &[16, 32])])
 }

