@@ -1,14 +1,18 @@
 -- The turns of a script, one after another.
-use Rattle.std.proofs.Common.{◌≡◌, ℕ, ◌+◌, ◌<◌, ◌==◌, true, false, List, [], ◌∷◌, ◌++◌, length, take, get_or, Some, None, Result, Ok, Err, OnOk, refl, subst}
+use Rattle.std.proofs.Common.{◌≡◌, ℕ, ◌+◌, ◌<◌, ◌==◌, true, false, List, [], ◌∷◌, ◌++◌, length, take, get_or, Some, None, Result, Ok, Err, OnOk, refl, sym, ap, subst, append-nil, append_assoc, ◌∙◌}
+use Rattle.std.specs.List.{AllByRecursion}
 use Rattle.std.proofs.lemmas.Bool.Decides.{Decides-eqb}
 use Rattle.std.proofs.lemmas.List.{reverse-append, take_more}
 use Rattle.trace_writer.specs.declared.encoder.call.Reply.{Reply}
+use Rattle.trace_writer.specs.State.{WriterState}
 use Rattle.trace_writer.specs.Calls.{Action}
+use Rattle.trace_writer.specs.Runs.{Plays}
+use Rattle.trace_writer.specs.Headline.{FreshHeadline}
 use Rattle.trace_replay.specs.declared.script.call.Call.{Call}
 use Rattle.trace_replay.specs.declared.script.call.Call.TheVariants.{Nothing, Define, Register, Event, DefineType, WriteTyped, InternString, InternStack, StringPool, StackPool, Reset, Resume, Raw, Bare}
 use Rattle.trace_replay.specs.declared.player.Defined.{Defined}
 use Rattle.trace_replay.specs.declared.player.PlayError.{PlayError}
-use Rattle.trace_replay.specs.Playing.{Playing, schema_under, with_reply, Asks, IsAsked, Turns, TurnsEach}
+use Rattle.trace_replay.specs.Playing.{Playing, schema_under, with_reply, start, Asks, IsAsked, IsOfEncoder, IsWritten, Turns, TurnsEach}
 use Rattle.trace_replay.proofs.ScriptLemmas.{not_equal}
 
 no_action : (a : Action) → None ≡ Some a → ⊥
@@ -55,3 +59,75 @@ under_here defined i d handle inside is same = rw (take_more defined i d inside,
 -- or not
 pub under_before : (defined : List Defined) (i : ℕ) (d : Defined) (handle : ℕ) → i < length defined → d ≡ get_or defined i d → (d.handle ≡ handle → ⊥) → schema_under (take (i + 1) defined) handle ≡ schema_under (take i defined) handle
 under_before defined i d handle inside is other = rw (take_more defined i d inside, ← is) (under_others (take i defined) d handle (not_equal d.handle handle other))
+
+-- what an encoder sends from p to q, where nothing is put past it
+pub record Written (p q : Playing) : Type 0 where
+  pub actions : List Action
+  pub replies : List Reply
+  pub sent : List ℕ
+  pub plays : Plays p.state actions replies sent q.state
+  pub bytes : q.bytes ≡ p.bytes ++ sent
+
+-- before it, the encoder and the output stay as they are
+quiet : (p q r : Playing) → q.state ≡ p.state → q.bytes ≡ p.bytes → Written q r → Written p r
+quiet p q r state bytes later = record {
+  actions = later.actions;
+  replies = later.replies;
+  sent = later.sent;
+  plays = subst (λ (x : WriterState). Plays x later.actions later.replies later.sent r.state) state later.plays;
+  bytes = later.bytes ∙ ap (λ (b : List ℕ). b ++ later.sent) bytes;
+}
+
+-- before it, the encoder is asked
+asked : (p : Playing) (call : Call) (q r : Playing) → IsAsked p call q → Written q r → Written p r
+asked p call q r h after =
+    let later : Written h.1 r = quiet h.1 q r (ap (λ (x : Playing). x.state) h.3) (ap (λ (x : Playing). x.bytes) h.3) after in
+    let output : h.1.bytes ≡ p.bytes ++ h.2.sent = ap (λ (x : Playing). x.bytes) h.2.output in
+    record {
+      actions = h.2.action ∷ later.actions;
+      replies = h.0 ∷ later.replies;
+      sent = h.2.sent ++ later.sent;
+      plays = (h.1.state, h.2.sent, later.sent, refl, h.2.answered, later.plays);
+      bytes = later.bytes ∙ (ap (λ (b : List ℕ). b ++ later.sent) output ∙ append_assoc p.bytes h.2.sent later.sent);
+    }
+
+-- before it, a turn
+turn : (p : Playing) (call : Call) (q r : Playing) → IsOfEncoder call → Turns p call q → Written q r → Written p r
+turn p Nothing q r plain h later = quiet p q r (ap (λ (x : Playing). x.state) h) (ap (λ (x : Playing). x.bytes) h) later
+turn p (Define handle definition) q r plain h later = quiet p q r (ap (λ (x : Playing). x.state) h) (ap (λ (x : Playing). x.bytes) h) later
+turn p (Register handle) q r plain h later = asked p (Register handle) q r h later
+turn p (Event handle time values) q r plain h later = asked p (Event handle time values) q r h later
+turn p (DefineType handle slot definition) q r plain h later = asked p (DefineType handle slot definition) q r h later
+turn p (WriteTyped handle time values) q r plain h later = asked p (WriteTyped handle time values) q r h later
+turn p (InternString text) q r plain h later = asked p (InternString text) q r h later
+turn p (InternStack frames) q r plain h later = asked p (InternStack frames) q r h later
+turn p (StringPool entries) q r plain h later = asked p (StringPool entries) q r h later
+turn p (StackPool entries) q r plain h later = asked p (StackPool entries) q r h later
+turn p Reset q r plain h later = asked p Reset q r h later
+turn p Resume q r plain h later = asked p Resume q r h later
+turn p (Raw bytes) q r plain h later = absurd plain
+turn p Bare q r plain h later = absurd plain
+
+-- all turns
+turns : (p : Playing) (calls : List Call) (q : Playing) → AllByRecursion IsOfEncoder calls → TurnsEach p calls q → Written p q
+turns p [] q plain h = record {
+  actions = [];
+  replies = [];
+  sent = [];
+  plays = (refl, ap (λ (x : Playing). x.state) h);
+  bytes = ap (λ (x : Playing). x.bytes) h ∙ sym (append-nil p.bytes);
+}
+turns p (call ∷ calls) q plain h = turn p call h.0 q plain.0 h.1 (turns h.0 calls q plain.1 h.2)
+
+-- from the start
+pub written_by : FreshHeadline → (calls : List Call) (last : Playing) → TurnsEach start calls last → AllByRecursion IsOfEncoder calls → IsWritten last
+written_by headline calls last each plain =
+    let w = turns start calls last plain each in
+    record {
+      actions = w.actions;
+      replies = w.replies;
+      sent = w.sent;
+      plays = w.plays;
+      bytes = w.bytes;
+      read = λ faultless. headline w.actions w.replies w.sent last.state w.plays faultless;
+    }

@@ -1,7 +1,7 @@
 -- What playing a script makes.
 use Rattle.std.specs.Prelude.{◌≡◌, ◌≢◌, ⊤, ℕ, ◌==◌, List, [], ◌∷◌, ◌++◌, Option, Some, None, map, reverse, codes, decimal, string_bytes}
 use Rattle.std.specs.Option.{option_map}
-use Rattle.std.specs.List.{find}
+use Rattle.std.specs.List.{find, AllByRecursion}
 use Rattle.trace_values.specs.declared.leb128.error.EncodeError.{EncodeError}
 use Rattle.trace_values.specs.declared.leb128.error.EncodeError.TheVariants as errors
 use Rattle.trace_values.specs.IdTexts.{pool_text, stack_text}
@@ -11,6 +11,8 @@ use Rattle.trace_writer.specs.declared.encoder.call.Reply.{Reply}
 use Rattle.trace_writer.specs.declared.encoder.call.Reply.TheVariants.{Done, WireId, Text, Stack, Refused}
 use Rattle.trace_writer.specs.State.{WriterState}
 use Rattle.trace_writer.specs.Calls.{Action, register, write_event, intern_string, write_string_pool, intern_stack, write_stack_pool, Answered, fresh, header}
+use Rattle.trace_writer.specs.Runs.{Plays}
+use Rattle.trace_writer.specs.Headline.{AreFaultless, IsRead, frames_played}
 use Rattle.trace_replay.specs.declared.script.call.Call.{Call}
 use Rattle.trace_replay.specs.declared.script.call.Call.TheVariants.{Nothing, Define, Register, Event, InternString, InternStack, StringPool, StackPool, Raw, Bare}
 use Rattle.trace_replay.specs.declared.script.definitions.Annotation.{Annotation}
@@ -139,11 +141,28 @@ abbrev pub TurnsEach : Playing → List Call → Playing → Type 0
 TurnsEach p [] q = q ≡ p
 TurnsEach p (call ∷ calls) q = (mid : Playing) × Turns p call mid × TurnsEach mid calls q
 
+-- the call puts nothing past the encoder, and takes nothing away
+abbrev pub IsOfEncoder : Call → Type 0
+IsOfEncoder (Raw bytes) = ⊥
+IsOfEncoder Bare = ⊥
+IsOfEncoder call = Unit {0}
+
+-- The output is the header and what a new encoder sends where it answers calls so one after another; and where its writer never
+-- failed, a reader takes exactly the frames of the accepted calls.
+pub record IsWritten (last : Playing) : Type 0 where
+  pub actions : List Action
+  pub replies : List Reply
+  pub sent : List ℕ
+  pub plays : Plays fresh actions replies sent last.state
+  pub bytes : last.bytes ≡ header ++ sent
+  pub read : AreFaultless replies → IsRead fresh sent (frames_played fresh actions replies) last.state
+
 -- the text is a script, whose calls on a new encoder make the bytes and the replies
 pub record IsPlayed (text bytes replies : List ℕ) : Type 0 where
   pub calls : List Call
   pub script : IsScript calls text
   pub last : Playing
   pub turns : TurnsEach start calls last
+  pub written : AllByRecursion IsOfEncoder calls → IsWritten last
   pub same_bytes : bytes ≡ last.bytes
   pub same_replies : replies ≡ last.replies

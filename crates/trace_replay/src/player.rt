@@ -13,6 +13,7 @@ use trace_values::leb128::EncodeError;
 use trace_wire::codec::{PoolEntry, StackPoolEntry};
 use trace_wire::schema::{FieldAnnotation, SchemaEntry};
 use trace_writer::encoder::{Encoder, Reply, Schema};
+use trace_writer::laws::fresh_headline;
 
 /// What the calls of a script made.
 #[derive(Drop)]
@@ -81,6 +82,8 @@ pub fn play(alloc: Global, text: &[u8]) -> Result<Played, PlayError>
 {
     let script = script_of(alloc, text)?;
     admit(&script)?;
+    // How a reader takes the output.
+    fresh_headline();
     let mut player = Player::new(alloc)?;
     for (before, call) in script.iter().enumerate() {
         player.make(before.saturating_add(1), call)?;

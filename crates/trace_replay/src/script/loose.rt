@@ -1,7 +1,7 @@
 //! What a part of a line seems to say. Nothing here minds how exactly a part is spelled: the caller prints what was found, and
 //! sees whether the line begins with that.
 
-ghost use Rattle.std.specs.Prelude.{◌≡◌, ◌+◌, ◌<◌, ◌≤◌, ◌++◌, length, IfOk, IfSome};
+ghost use Rattle.std.specs.Prelude.{◌≡◌, ◌-◌, ◌+◌, ◌<◌, ◌≤◌, drop, length, IfOk};
 
 use crate::script::fault::Fault;
 use crate::script::parts::behind;
@@ -12,7 +12,8 @@ use trace_values::types::{FieldValue, InternedStackFrames, InternedString, Stack
 pub fn number(text: &[u8], radix: u32) -> (u64, &[u8])
     requires lower_bound { 2 ≤ radix }
     requires upper_bound { radix ≤ 36 }
-    ensures { length result.1.now ≤ length text.now }
+    ensures rest { result.1.now ≡ drop (length text.now - length result.1.now) text.now }
+    ensures len { length result.1.now ≤ length text.now }
 {
     let mut value = 0u64;
     for (i, byte) in text.iter().enumerate() {

@@ -2,7 +2,7 @@ use Rattle.std.proofs.Common.{◌≡◌, ◌+◌, ◌∷◌, ◌++◌, ap, sym, 
 use Rattle.std.proofs.lemmas.List.{take_more, take_all}
 use Rattle.trace_replay.specs.declared.script.call.Call.{Call}
 use Rattle.trace_replay.specs.Playing.{TurnsEach, playing_of, start}
-use Rattle.trace_replay.proofs.PlayingLemmas.{TurnsEach-append}
+use Rattle.trace_replay.proofs.PlayingLemmas.{TurnsEach-append, written_by}
 use Rattle.trace_replay.proofs.player.play.Goals as goal
 
 pub loop-before-preserved : goal.loop-before-preserved
@@ -21,6 +21,7 @@ returns c =
       script = c.in_ok-script.ensures;
       last = playing_of c.loop-before.player;
       turns = played;
+      written = λ plain. written_by c.fresh_headline.ensures _ _ played plain;
       same_bytes = ap (λ p. p.bytes.items) c.into_played.ensures;
       same_replies = ap (λ p. string_bytes p.replies) c.into_played.ensures;
     }
