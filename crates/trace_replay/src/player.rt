@@ -1,6 +1,7 @@
 //! Plays the calls of a script on an encoder.
 
 ghost use Rattle.std.specs.Prelude.{◌≡◌, ◌↔◌, ◌++◌, map, IsTrue, IfOk, OnOk, string_bytes};
+ghost use Rattle.trace_values.specs.Sending.{telling};
 ghost use Rattle.trace_wire.specs.PoolEntries.{string_entries_of, stack_entries_of};
 ghost use Rattle.trace_writer.specs.Calls.{Action, Does, reply_from};
 ghost use Rattle.trace_replay.specs.declared.player.PlayError.TheVariants as errors;
@@ -222,7 +223,7 @@ fn reply_of(
     line: usize,
     call: &Call,
 ) -> Result<Reply, PlayError>
-    ensures { IfOk result (λ reply. (action : Action) × (action_of schemas.now call.now ≡ Some action) × Does (λ v. Some v.items) encoder.old action reply encoder.new) }
+    ensures { IfOk result (λ reply. (action : Action) × (action_of schemas.now call.now ≡ Some action) × Does (λ v. telling (Some v.items)) encoder.old action reply encoder.new) }
 {
     match call {
         Call::Register { handle } => {

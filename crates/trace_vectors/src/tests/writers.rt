@@ -31,9 +31,7 @@ impl Short {
 }
 
 impl TraceWrite for Short {
-    ghost told = { λ _. None };
-
-    ghost last = { λ _. None };
+    ghost told = { λ _. record { bytes = None; faults = None; settled = None } };
 
     fn send(&mut self, piece: &[u8]) -> io::Result<usize> {
         let count = piece.len().min(self.step).min(self.room);
