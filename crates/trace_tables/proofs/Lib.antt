@@ -1,3 +1,4 @@
+pub mod Found
 pub mod SortedEntries
 pub mod MapLemmas
 pub mod DenseLemmas
