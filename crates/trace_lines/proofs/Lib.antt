@@ -3,3 +3,4 @@ mod Joined
 mod DumpLemmas
 mod Growing
 mod Placing
+mod Gathering

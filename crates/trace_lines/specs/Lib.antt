@@ -1,3 +1,4 @@
 pub mod Lines
 pub mod Dumps
 pub mod Sent
+pub mod Program

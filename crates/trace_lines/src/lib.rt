@@ -4,5 +4,6 @@
 pub mod dump;
 mod entries;
 mod lines;
+pub mod program;
 pub mod text;
 pub mod value;

@@ -1,5 +1,7 @@
+pub mod Found
 pub mod SortedEntries
 pub mod MapLemmas
 pub mod DenseLemmas
+pub mod UsedLemmas
 pub mod TreeLemmas
 pub mod HashedLemmas

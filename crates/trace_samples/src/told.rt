@@ -1,0 +1,131 @@
+//! A writer that tells all.
+
+ghost use Rattle.std.specs.Prelude.{◌≡◌, ◌≢◌, ◌≤◌, [], IfOk, length};
+ghost use Rattle.trace_values.specs.Sending.{Took, Holds, Settles, taken, send_faults, settle_faults};
+ghost use Rattle.trace_samples.specs.Telling.{all_told, unused, Follows, FollowsSettling, IsRefusal, script_spent};
+ghost use Rattle.trace_samples.specs.Scripts.{next_refusal};
+
+use crate::script::{ROOM, Refusal, Script};
+use std::io;
+use std::io::ErrorKind;
+use std::marker::Model;
+use trace_values::leb128::{Faults, TraceWrite};
+
+/// A writer over a fixed array. It tells the bytes that it accepted, its faults, and whether all bytes were handed on; it takes
+/// no memory, and fails as its script says.
+#[derive(Drop)]
+pub struct Told {
+    buffer: [u8; ROOM],
+    length: usize,
+    faults: Faults,
+    settled: bool,
+    script: Script,
+}
+
+impl Model for Told {
+    ghost use Rattle.std.specs.Prelude.{take, ◌≤◌};
+    ghost use Rattle.trace_samples.specs.Telling.{Teller};
+
+    ghost Value = { Teller };
+
+    ghost view = { λ t. record { bytes = take t.length t.buffer; faults = t.faults; settled = t.settled; script = t.script } };
+
+    ghost invariant = { λ t. t.length ≤ 1024 };
+}
+
+impl TraceWrite for Told {
+    ghost told = { all_told };
+
+    /// Accepts of the piece what the script allows. Where that is nothing, it fails by the script, and notes the fault.
+    fn send(&mut self, piece: &[u8]) -> io::Result<usize>
+        ensures within { IfOk result (λ n. n ≤ length piece.now) }
+        ensures took { Took (all_told self.old) (all_told self.new) (taken result piece.now) (send_faults result piece.now) }
+        ensures holds { Holds (all_told self.old) (all_told self.new) (taken result piece.now) }
+        ensures follows { Follows self.old piece.now result self.new }
+    {
+        if piece.is_empty() {
+            return Ok(0);
+        }
+        let room = self.script.end().saturating_sub(self.length);
+        let count = piece.len().min(self.script.step.min(room));
+        if count == 0 {
+            return self.refuse(piece);
+        }
+        self.buffer[self.length..self.length + count].copy_from_slice(&piece[..count]);
+        self.length += count;
+        self.settled = false;
+        Ok(count)
+    }
+
+    /// Notes that all bytes were handed on, or fails by the script, and notes the fault.
+    fn settle(&mut self) -> io::Result<()>
+        ensures took { Took (all_told self.old) (all_told self.new) [] (settle_faults result) }
+        ensures settles { Settles (all_told self.old) (all_told self.new) result }
+        ensures follows { FollowsSettling self.old.script.settling result }
+        ensures script { self.new.script ≡ self.old.script }
+    {
+        if let Some(fault) = self.script.settling {
+            self.faults.add(fault);
+            return Err(io::Error::from(fault));
+        }
+        self.settled = true;
+        Ok(())
+    }
+}
+
+impl Told {
+    /// A writer that has accepted nothing. It is settled.
+    pub fn new(script: Script) -> Told
+        ensures { result ≡ unused script }
+    {
+        Told {
+            buffer: [0; ROOM],
+            length: 0,
+            faults: Faults::NoFault,
+            settled: true,
+            script,
+        }
+    }
+
+    /// The bytes that it accepted.
+    pub fn bytes(&self) -> &[u8]
+        ensures { result.now ≡ self.now.bytes }
+    {
+        &self.buffer[..self.length]
+    }
+
+    /// Its faults.
+    pub fn faults(&self) -> Faults
+        ensures { result ≡ self.now.faults }
+    {
+        self.faults
+    }
+
+    /// Whether all bytes that it accepted were handed on.
+    pub fn is_settled(&self) -> bool
+        ensures { result ≡ self.now.settled }
+    {
+        self.settled
+    }
+
+    // Refuses a piece that is not empty by the script, and notes the fault.
+    fn refuse(&mut self, piece: &[u8]) -> io::Result<usize>
+        requires { length piece.now ≢ 0 }
+        ensures took { Took (all_told self.old) (all_told self.new) (taken result piece.now) (send_faults result piece.now) }
+        ensures refuses { IsRefusal (next_refusal self.old.script.failing) result }
+        ensures same { self.new ≡ record self.old { faults = self.new.faults; script = script_spent self.old.script } }
+    {
+        let refusal = self.script.failing.next_refusal();
+        self.script.failing = self.script.failing.spent();
+        match refusal {
+            Refusal::Zero => {
+                self.faults.add(ErrorKind::WriteZero);
+                Ok(0)
+            }
+            Refusal::Error(kind) => {
+                self.faults.add(kind);
+                Err(io::Error::from(kind))
+            }
+        }
+    }
+}
