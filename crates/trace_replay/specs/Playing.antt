@@ -10,7 +10,7 @@ use Rattle.trace_wire.specs.Schemas as schemas
 use Rattle.trace_writer.specs.declared.encoder.call.Reply.{Reply}
 use Rattle.trace_writer.specs.declared.encoder.call.Reply.TheVariants.{Done, WireId, Text, Stack, Refused}
 use Rattle.trace_writer.specs.State.{WriterState}
-use Rattle.trace_writer.specs.Calls.{Action, register, write_event, intern_string, write_string_pool, intern_stack, write_stack_pool, Answered, fresh, header}
+use Rattle.trace_writer.specs.Calls.{Action, register, write_event, intern_string, write_string_pool, intern_stack, write_stack_pool, Answered, fresh_state, header}
 use Rattle.trace_writer.specs.Runs.{Plays}
 use Rattle.trace_writer.specs.Headline.{AreFaultless, IsRead, frames_played}
 use Rattle.trace_replay.specs.declared.script.call.Call.{Call}
@@ -103,7 +103,7 @@ pub record Playing : Type 0 where
 
 -- a new encoder, whose header stands in the output
 abbrev pub start : Playing
-start = record { state = fresh; defined = []; bytes = header; replies = [] }
+start = record { state = fresh_state; defined = []; bytes = header; replies = [] }
 
 abbrev pub playing_of : Player → Playing
 playing_of p = record { state = p.encoder.state; defined = p.schemas.items; bytes = p.played.bytes.items; replies = string_bytes p.played.replies }
@@ -153,9 +153,9 @@ pub record IsWritten (last : Playing) : Type 0 where
   pub actions : List Action
   pub replies : List Reply
   pub sent : List ℕ
-  pub plays : Plays fresh actions replies sent last.state
+  pub plays : Plays fresh_state actions replies sent last.state
   pub bytes : last.bytes ≡ header ++ sent
-  pub read : AreFaultless replies → IsRead fresh sent (frames_played fresh actions replies) last.state
+  pub read : AreFaultless replies → IsRead fresh_state sent (frames_played fresh_state actions replies) last.state
 
 -- the text is a script, whose calls on a new encoder make the bytes and the replies
 pub record IsPlayed (text bytes replies : List ℕ) : Type 0 where

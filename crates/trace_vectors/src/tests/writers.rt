@@ -1,114 +1,234 @@
-//! Writers that fail, and one that takes a byte at a time.
+//! Encoders over a writer that fails: what was answered, and what the writer tells of it.
 
-ghost use Rattle.std.specs.Prelude.{None};
-
-use crate::tests::traces::{ONE_EVENT, ev};
-use dial9_trace_format::encoder::{Encoder, Schema};
-use dial9_trace_format::leb128::{EncodeError, TraceWrite};
-use dial9_trace_format::types::FieldValue;
+use crate::tests::told::{KINDS, breaking, check_told, kind_of, once, stepping};
+use crate::tests::traces::{ONE_EVENT, ev, one_definition};
+use dial9_trace_format::codec::{PoolEntry, StackPoolEntry};
+use dial9_trace_format::encoder::Encoder;
+use dial9_trace_format::leb128::{EncodeError, Faults};
+use dial9_trace_format::types::{FieldType, FieldValue};
 use std::alloc::Global;
-use std::io;
 use std::io::ErrorKind;
 use std::process::Abort;
 use std::test::Fail;
+use trace_samples::{Refusal, Script, Told};
 
-/// Takes at most `step` bytes a call and `room` bytes in all, and then fails.
-#[derive(Drop)]
-struct Short {
-    taken: Vec<u8>,
-    step: usize,
-    room: usize,
+/// Header, and the pool frame of `hello` under 0.
+const TEXT: [u8; 23] = [
+    0x54, 0x52, 0x43, 0x00, 0x01, 0x03, 0x01, 0x00, 0x00, 0x00, 0x00, 0x00, 0x00, 0x00, 0x05, 0x00,
+    0x00, 0x00, 0x68, 0x65, 0x6C, 0x6C, 0x6F,
+];
+
+/// Header, and the pool frame of the stack of 16 alone under 0.
+const STACK: [u8; 26] = [
+    0x54, 0x52, 0x43, 0x00, 0x01, 0x04, 0x01, 0x00, 0x00, 0x00, 0x00, 0x00, 0x00, 0x00, 0x01, 0x00,
+    0x00, 0x00, 0x10, 0x00, 0x00, 0x00, 0x00, 0x00, 0x00, 0x00,
+];
+
+/// Header, and the pool frame of `b` under 7.
+const STRING_POOL: [u8; 19] = [
+    0x54, 0x52, 0x43, 0x00, 0x01, 0x03, 0x01, 0x00, 0x00, 0x00, 0x07, 0x00, 0x00, 0x00, 0x01, 0x00,
+    0x00, 0x00, 0x62,
+];
+
+/// Header, and the pool frame of the empty stack under 7.
+const STACK_POOL: [u8; 18] = [
+    0x54, 0x52, 0x43, 0x00, 0x01, 0x04, 0x01, 0x00, 0x00, 0x00, 0x07, 0x00, 0x00, 0x00, 0x00, 0x00,
+    0x00, 0x00,
+];
+
+/// A call of an encoder that writes.
+#[derive(Clone, Copy)]
+enum Work {
+    RegisterSchema,
+    RegisterExisting,
+    Event,
+    Text,
+    Stack,
+    StringPool,
+    StackPool,
 }
 
-impl Short {
-    fn new(alloc: Global, step: usize, room: usize) -> Short {
-        Short {
-            taken: Vec::new(alloc),
-            step,
-            room,
+const EACH: [Work; 7] = [
+    Work::RegisterSchema,
+    Work::RegisterExisting,
+    Work::Event,
+    Work::Text,
+    Work::Stack,
+    Work::StringPool,
+    Work::StackPool,
+];
+
+/// What a new encoder has sent after the call.
+fn trace_of(work: Work) -> &'static [u8] {
+    match work {
+        Work::RegisterSchema => &ONE_EVENT[..19],
+        Work::RegisterExisting => &ONE_EVENT[..19],
+        Work::Event => &ONE_EVENT,
+        Work::Text => &TEXT,
+        Work::Stack => &STACK,
+        Work::StringPool => &STRING_POOL,
+        Work::StackPool => &STACK_POOL,
+    }
+}
+
+fn register_schema(alloc: Global, encoder: &mut Encoder<Told>) -> Result<(), EncodeError> {
+    let fields = one_definition(alloc, "v", FieldType::Varint)?;
+    encoder.register_schema("Ev", fields)?;
+    Ok(())
+}
+
+fn register_existing(alloc: Global, encoder: &mut Encoder<Told>) -> Result<(), EncodeError> {
+    let schema = ev(alloc)?;
+    encoder.register_existing(&schema)?;
+    Ok(())
+}
+
+fn write_event(alloc: Global, encoder: &mut Encoder<Told>) -> Result<(), EncodeError> {
+    let schema = ev(alloc)?;
+    encoder.write_event(&schema, 1_000, &[FieldValue::Varint(42)])
+}
+
+fn intern_text(encoder: &mut Encoder<Told>) -> Result<(), EncodeError> {
+    encoder.intern_string("hello")?;
+    Ok(())
+}
+
+fn intern_stack(encoder: &mut Encoder<Told>) -> Result<(), EncodeError> {
+    encoder.intern_stack_frames(&[16])?;
+    Ok(())
+}
+
+fn write_string_pool(alloc: Global, encoder: &mut Encoder<Told>) -> Result<(), EncodeError> {
+    let entry = PoolEntry {
+        pool_id: 7,
+        bytes: b"b".to_vec(alloc)?,
+    };
+    encoder.write_string_pool(&[entry])
+}
+
+fn write_stack_pool(alloc: Global, encoder: &mut Encoder<Told>) -> Result<(), EncodeError> {
+    let entry = StackPoolEntry {
+        pool_id: 7,
+        frames: Vec::new(alloc),
+    };
+    encoder.write_stack_pool(&[entry])
+}
+
+/// Makes the call.
+fn make(alloc: Global, encoder: &mut Encoder<Told>, work: Work) -> Result<(), EncodeError> {
+    match work {
+        Work::RegisterSchema => register_schema(alloc, encoder),
+        Work::RegisterExisting => register_existing(alloc, encoder),
+        Work::Event => write_event(alloc, encoder),
+        Work::Text => intern_text(encoder),
+        Work::Stack => intern_stack(encoder),
+        Work::StringPool => write_string_pool(alloc, encoder),
+        Work::StackPool => write_stack_pool(alloc, encoder),
+    }
+}
+
+/// The writer took these bytes, failed so far, and settled nothing.
+fn check_sent(rt: &impl Abort, encoder: &Encoder<Told>, bytes: &[u8], faults: Faults) {
+    assert_eq!(rt; encoder.bytes_written(), bytes.len() as u64);
+    check_told(rt, encoder.as_inner(), bytes, faults, false);
+}
+
+/// The encoder has failed: each call says so, and sends nothing.
+fn check_failed(
+    rt: &impl Abort,
+    alloc: Global,
+    encoder: &mut Encoder<Told>,
+    sent: &[u8],
+    kind: ErrorKind,
+) {
+    for work in EACH {
+        let answer = make(alloc, encoder, work);
+        assert_eq!(rt; answer, Err(EncodeError::Failed));
+        check_sent(rt, encoder, sent, Faults::OneFault(kind));
+    }
+}
+
+/// The call stops where the writer fails, and is not tried again.
+fn check_stopped(
+    rt: &impl Abort,
+    alloc: Global,
+    encoder: &mut Encoder<Told>,
+    work: Work,
+    script: Script,
+) {
+    let kind = kind_of(script);
+    let answer = make(alloc, encoder, work);
+    assert_eq!(rt; answer, Err(EncodeError::Writer(kind)));
+    let sent = trace_of(work).get(..script.place).unwrap_or(&[]);
+    check_failed(rt, alloc, encoder, sent, kind);
+}
+
+/// The call over a writer of this script, on a new encoder.
+fn check_work(rt: &impl Abort, alloc: Global, work: Work, script: Script) {
+    match Encoder::new_to(alloc, Told::new(script)) {
+        Err(fault) => {
+            assert!(rt; script.place < 5);
+            assert_eq!(rt; fault, EncodeError::Writer(kind_of(script)));
+        }
+        Ok(mut encoder) => {
+            assert!(rt; script.place >= 5);
+            check_stopped(rt, alloc, &mut encoder, work, script);
         }
     }
 }
 
-impl TraceWrite for Short {
-    ghost told = { λ _. record { bytes = None; faults = None; settled = None } };
-
-    fn send(&mut self, piece: &[u8]) -> io::Result<usize> {
-        let count = piece.len().min(self.step).min(self.room);
-        if count == 0 && !piece.is_empty() {
-            return Err(io::Error::from(ErrorKind::BrokenPipe));
+/// The call over writers that fail at each place of what it sends, each way, always and once, in steps of this size.
+fn check_each_place(rt: &impl Abort, alloc: Global, work: Work, step: usize) {
+    for place in 0..trace_of(work).len() {
+        for refusal in KINDS {
+            check_work(rt, alloc, work, breaking(step, place, refusal));
+            check_work(rt, alloc, work, once(breaking(step, place, refusal)));
         }
-        self.taken.extend_from_slice(&piece[..count])?;
-        self.room -= count;
-        Ok(count)
-    }
-
-    fn settle(&mut self) -> io::Result<()> {
-        Ok(())
     }
 }
 
 #[test]
-fn one_byte_at_a_time(rt: HostRuntime) -> Result<(), Fail> {
-    let schema = ev(rt.alloc())?;
-    let mut encoder = Encoder::new_to(rt.alloc(), Short::new(rt.alloc(), 1, 100))?;
-    encoder.write_event(&schema, 1_000, &[FieldValue::Varint(42)])?;
-    assert_eq!(rt; encoder.bytes_written(), 26);
-    assert_eq!(rt; encoder.as_inner().taken.as_slice(), ONE_EVENT.as_slice());
+fn each_call_stops_where_the_writer_fails(rt: HostRuntime) {
+    for work in EACH {
+        check_each_place(&rt, rt.alloc(), work, 1);
+        check_each_place(&rt, rt.alloc(), work, 4);
+        check_each_place(&rt, rt.alloc(), work, 1_024);
+    }
+}
+
+/// The call over a writer that takes so many bytes at a time.
+fn check_whole(rt: &impl Abort, alloc: Global, work: Work, step: usize) -> Result<(), Fail> {
+    let mut encoder = Encoder::new_to(alloc, Told::new(stepping(step)))?;
+    make(alloc, &mut encoder, work)?;
+    check_sent(rt, &encoder, trace_of(work), Faults::NoFault);
+    Ok(())
+}
+
+#[test]
+fn each_call_sends_all_in_any_steps(rt: HostRuntime) -> Result<(), Fail> {
+    for work in EACH {
+        check_whole(&rt, rt.alloc(), work, 1)?;
+        check_whole(&rt, rt.alloc(), work, 3)?;
+        check_whole(&rt, rt.alloc(), work, 1_024)?;
+    }
     Ok(())
 }
 
 #[test]
 fn writer_fails_after_eight_bytes(rt: HostRuntime) -> Result<(), Fail> {
-    let schema = ev(rt.alloc())?;
-    let mut encoder = Encoder::new_to(rt.alloc(), Short::new(rt.alloc(), 3, 8))?;
-    let fault = Err(EncodeError::Writer(ErrorKind::BrokenPipe));
-    assert_eq!(rt; encoder.register_existing(&schema), fault);
+    let script = breaking(3, 8, Refusal::Error(ErrorKind::BrokenPipe));
+    let mut encoder = Encoder::new_to(rt.alloc(), Told::new(script))?;
+    let answer = make(rt.alloc(), &mut encoder, Work::RegisterExisting);
+    assert_eq!(rt; answer, Err(EncodeError::Writer(ErrorKind::BrokenPipe)));
     assert_eq!(rt; encoder.bytes_written(), 8);
-    assert_eq!(rt; encoder.as_inner().taken.as_slice(), &ONE_EVENT[..8]);
-    assert_eq!(rt;
-        encoder.register_existing(&schema),
-        Err(EncodeError::Failed)
+    let told = encoder.into_inner();
+    let sent = [0x54, 0x52, 0x43, 0x00, 0x01, 0x01, 0x00, 0x01];
+    check_told(
+        &rt,
+        &told,
+        &sent,
+        Faults::OneFault(ErrorKind::BrokenPipe),
+        false,
     );
-    let values = [FieldValue::Varint(42)];
-    assert_eq!(rt;
-        encoder.write_event(&schema, 1_000, &values),
-        Err(EncodeError::Failed)
-    );
-    assert_eq!(rt; encoder.bytes_written(), 8);
-    assert_eq!(rt; encoder.into_inner().taken.as_slice(), &ONE_EVENT[..8]);
-    Ok(())
-}
-
-/// The calls are answered where the writer has room for them, and what it took is a front of the trace.
-fn check_calls(rt: &impl Abort, encoder: &mut Encoder<Short>, schema: &Schema, room: usize) {
-    let registered = encoder.register_existing(schema).is_ok();
-    assert_eq!(rt; registered, room >= 19);
-    let written = encoder
-        .write_event(schema, 1_000, &[FieldValue::Varint(42)])
-        .is_ok();
-    assert_eq!(rt; written, room == 26);
-    assert_eq!(rt; encoder.bytes_written(), room as u64);
-    assert_eq!(rt;
-        Some(encoder.as_inner().taken.as_slice()),
-        ONE_EVENT.get(..room)
-    );
-}
-
-#[test]
-fn writer_fails_at_each_place(rt: HostRuntime) -> Result<(), Fail> {
-    let schema = ev(rt.alloc())?;
-    for room in 0..27usize {
-        match Encoder::new_to(rt.alloc(), Short::new(rt.alloc(), 4, room)) {
-            Err(fault) => {
-                assert!(rt; room < 5);
-                assert_eq!(rt; fault, EncodeError::Writer(ErrorKind::BrokenPipe));
-            }
-            Ok(mut encoder) => {
-                assert!(rt; room >= 5);
-                check_calls(&rt, &mut encoder, &schema, room);
-            }
-        }
-    }
     Ok(())
 }

@@ -1,0 +1,84 @@
+//! Dumps to a writer that fails: the status, and what the writer tells of it.
+
+use crate::tests::told::{KINDS, breaking, check_told, kind_of, once, stepping, unsettling};
+use crate::tests::traces::{HEADER, ONE_EVENT};
+use dial9_trace_format::leb128::{Faults, TraceWrite};
+use std::alloc::Global;
+use std::io::ErrorKind;
+use std::process::Abort;
+use trace_lines::dump::{FAILED, NO_HEADER, STOPPED, WHOLE, dump};
+use trace_samples::{Script, Told};
+
+/// The lines of one event.
+const LINES: &str =
+    "trace version 1\nschema \"Ev\" \"v\":Varint\nevent 256 1000 Varint:42\nend whole\n";
+
+/// The dump of one event stops where the writer fails, is not tried again, and does not settle.
+fn check_stopped(rt: &impl Abort, alloc: Global, script: Script) {
+    let mut told = Told::new(script);
+    assert_eq!(rt; dump(alloc, &ONE_EVENT, &mut told), FAILED);
+    let lines = LINES.as_bytes().get(..script.place).unwrap_or(&[]);
+    let faults = Faults::OneFault(kind_of(script));
+    check_told(rt, &told, lines, faults, lines.is_empty());
+}
+
+/// The dump over writers that fail at each place of its lines, each way, always and once, in steps of this size.
+fn check_each_place(rt: &impl Abort, alloc: Global, step: usize) {
+    for place in 0..LINES.len() {
+        for refusal in KINDS {
+            check_stopped(rt, alloc, breaking(step, place, refusal));
+            check_stopped(rt, alloc, once(breaking(step, place, refusal)));
+        }
+    }
+}
+
+#[test]
+fn dump_stops_where_the_writer_fails(rt: HostRuntime) {
+    check_each_place(&rt, rt.alloc(), 1);
+    check_each_place(&rt, rt.alloc(), 7);
+    check_each_place(&rt, rt.alloc(), 1_024);
+}
+
+/// The dump of the bytes over a writer that does not fail: the writer is settled.
+fn check_settled(rt: &impl Abort, alloc: Global, bytes: &[u8], status: u8, lines: &str) {
+    for step in [1, 5, 1_024usize] {
+        let mut told = Told::new(stepping(step));
+        assert_eq!(rt; dump(alloc, bytes, &mut told), status);
+        check_told(rt, &told, lines.as_bytes(), Faults::NoFault, true);
+    }
+}
+
+#[test]
+fn dump_settles_what_it_wrote(rt: HostRuntime) {
+    check_settled(&rt, rt.alloc(), &ONE_EVENT, WHOLE, LINES);
+    check_settled(&rt, rt.alloc(), &[], NO_HEADER, "no header\n");
+    let stopped = "trace version 1\nschema \"Ev\" \"v\":Varint\nend stopped at 19\n";
+    check_settled(&rt, rt.alloc(), &ONE_EVENT[..25], STOPPED, stopped);
+}
+
+/// The dump of the bytes over a writer that fails to settle.
+fn check_unsettled(rt: &impl Abort, alloc: Global, bytes: &[u8], lines: &str) {
+    for kind in [ErrorKind::StorageFull, ErrorKind::Interrupted] {
+        let mut told = Told::new(unsettling(kind));
+        assert_eq!(rt; dump(alloc, bytes, &mut told), FAILED);
+        check_told(rt, &told, lines.as_bytes(), Faults::OneFault(kind), false);
+    }
+}
+
+#[test]
+fn dump_fails_where_settling_fails(rt: HostRuntime) {
+    check_unsettled(&rt, rt.alloc(), &ONE_EVENT, LINES);
+    check_unsettled(&rt, rt.alloc(), &[], "no header\n");
+    check_unsettled(&rt, rt.alloc(), &HEADER, "trace version 1\nend whole\n");
+}
+
+#[test]
+fn a_later_byte_unsettles(rt: HostRuntime) {
+    let mut told = Told::new(stepping(1));
+    assert!(rt; told.settle().is_ok());
+    assert!(rt; told.is_settled());
+    assert!(rt; matches!(told.send(b"ab"), Ok(1)));
+    assert!(rt; !told.is_settled());
+    assert!(rt; told.settle().is_ok());
+    check_told(&rt, &told, b"a", Faults::NoFault, true);
+}

@@ -1,0 +1,62 @@
+//! Scripts of writers that fail, and what such a writer tells.
+
+use dial9_trace_format::leb128::Faults;
+use std::io::ErrorKind;
+use std::process::Abort;
+use trace_samples::{Failing, Refusal, Script, Told};
+
+/// Ways to fail: an error, an interrupted write, and the answer 0.
+pub const KINDS: [Refusal; 3] = [
+    Refusal::Error(ErrorKind::BrokenPipe),
+    Refusal::Error(ErrorKind::Interrupted),
+    Refusal::Zero,
+];
+
+/// Takes so many bytes at a time, and never fails.
+pub fn stepping(step: usize) -> Script {
+    Script {
+        step,
+        ..Script::SOUND
+    }
+}
+
+/// Takes so many bytes at a time, and fails so at this place.
+pub fn breaking(step: usize, place: usize, refusal: Refusal) -> Script {
+    Script {
+        step,
+        place,
+        failing: Failing::Always(refusal),
+        settling: None,
+    }
+}
+
+/// The same, but failing once.
+pub fn once(script: Script) -> Script {
+    Script {
+        failing: Failing::Once(script.failing.next_refusal()),
+        ..script
+    }
+}
+
+/// Fails to settle alone, by this kind of error.
+pub fn unsettling(kind: ErrorKind) -> Script {
+    Script {
+        settling: Some(kind),
+        ..Script::SOUND
+    }
+}
+
+/// The kind of the fault by which `send` fails.
+pub fn kind_of(script: Script) -> ErrorKind {
+    match script.failing.next_refusal() {
+        Refusal::Zero => ErrorKind::WriteZero,
+        Refusal::Error(kind) => kind,
+    }
+}
+
+/// The writer tells these bytes, these faults, and whether it is settled.
+pub fn check_told(rt: &impl Abort, told: &Told, bytes: &[u8], faults: Faults, settled: bool) {
+    assert_eq!(rt; told.bytes(), bytes);
+    assert_eq!(rt; told.faults(), faults);
+    assert_eq!(rt; told.is_settled(), settled);
+}
