@@ -1,11 +1,13 @@
 -- What a recording shows.
-use Rattle.std.specs.Prelude.{◌≡◌, ◌≢◌, ◌⊎◌, ◌↔◌, ℕ, List, [], Option, Some, None, String}
+use Rattle.std.specs.Prelude.{◌≡◌, ◌≢◌, ◌⊎◌, ◌↔◌, ℕ, List, [], Option, Some, None, Ok, String}
 use Rattle.std.specs.declared.alloc.Global.{Global}
+use Rattle.hex.specs.Hex.{decode_of}
 use Rattle.trace_lines.specs.Dumps.{IsDump}
 use Rattle.trace_recordings.specs.declared.findings.Outcome.{Outcome}
 use Rattle.trace_recordings.specs.declared.findings.Outcome.TheVariants.{Absent, LeftOut, Compared}
 use Rattle.trace_recordings.specs.declared.player.PlayError.{PlayError}
 use Rattle.trace_recordings.specs.declared.recording.Calls.{Calls}
+use Rattle.trace_recordings.specs.declared.recording.Recording.{Recording}
 use Rattle.trace_recordings.specs.declared.script.call.Call.{Call}
 use Rattle.trace_recordings.specs.Comparisons.{ended}
 use Rattle.trace_recordings.specs.Playing.{IsPlayed}
@@ -40,7 +42,15 @@ abbrev pub ShowsScript : List ℕ → Option Calls → Outcome → Type 0
 ShowsScript trace None outcome = outcome ≡ Absent
 ShowsScript trace (Some calls) outcome = ShowsCalls trace calls outcome
 
--- the digits of the recorded bytes cannot be read: nothing is compared, and a difference is told
+-- what is shown of the trace, where the digits of the recorded bytes can be read
+abbrev pub WhereRead : Recording → (List ℕ → Type 0) → Type 0
+WhereRead r shown = (trace : List ℕ) → decode_of r.bytes.now ≡ Ok trace → shown trace
+
+-- the digits of the recorded bytes cannot be read
+abbrev pub IsUnread : Recording → Type 0
+IsUnread r = WhereRead r (λ trace. ⊥)
+
+-- nothing is compared, and a difference is told
 abbrev pub ShowsUnread : Outcome → Outcome → Type 0
 ShowsUnread script Absent = ⊥
 ShowsUnread script (LeftOut name) = ⊥

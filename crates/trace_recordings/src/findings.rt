@@ -1,9 +1,8 @@
 //! What a recording shows of the library.
 
-ghost use Rattle.std.specs.Prelude.{◌≡◌, ◌↔◌, [], Ok, List, ℕ, IfOk, string_bytes};
-ghost use Rattle.hex.specs.Hex.{decode_of};
+ghost use Rattle.std.specs.Prelude.{◌≡◌, ◌↔◌, [], IfOk, string_bytes};
 ghost use Rattle.trace_recordings.specs.Comparisons.{ended};
-ghost use Rattle.trace_recordings.specs.Findings.{ShowsDump, ShowsScript, ShowsUnread};
+ghost use Rattle.trace_recordings.specs.Findings.{IsUnread, ShowsDump, ShowsScript, ShowsUnread, WhereRead};
 
 use crate::compare::{bytes_difference, lines_difference};
 use crate::player::{PlayError, Played, play};
@@ -32,9 +31,9 @@ pub struct Findings {
 
 /// Plays the script of a recording and dumps its trace, and compares what comes of both with the recording.
 pub fn findings_of(alloc: Global, recording: Recording<'_>) -> Result<Findings, AllocError>
-    ensures script { IfOk result (λ findings. (trace : List ℕ) → decode_of recording.entry.bytes.now ≡ Ok trace → ShowsScript trace recording.entry.calls findings.script) }
-    ensures dump { IfOk result (λ findings. (trace : List ℕ) → decode_of recording.entry.bytes.now ≡ Ok trace → ShowsDump trace recording.entry.dump.now findings.dump) }
-    ensures unread { IfOk result (λ findings. ((trace : List ℕ) → decode_of recording.entry.bytes.now ≡ Ok trace → ⊥) → ShowsUnread findings.script findings.dump) }
+    ensures script { IfOk result (λ findings. WhereRead recording.entry (λ trace. ShowsScript trace recording.entry.calls findings.script)) }
+    ensures dump { IfOk result (λ findings. WhereRead recording.entry (λ trace. ShowsDump trace recording.entry.dump.now findings.dump)) }
+    ensures unread { IfOk result (λ findings. IsUnread recording.entry → ShowsUnread findings.script findings.dump) }
 {
     match hex::decode(alloc, recording.bytes) {
         Ok(trace) => Ok(Findings {

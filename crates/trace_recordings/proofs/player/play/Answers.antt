@@ -37,5 +37,5 @@ returns-in_err-make-clause-refused c =
     let script = subst (λ (x : List Call). IsScript x c.args.text.now) same c.in_ok-script.ensures.read in
     let had = subst (λ (x : List Call). AllByRecursion IsHad x) (c.deref.ensures.value ∙ same) c.in_ok-admit.ensures.admitted in
     let refused : Refuses c.args.text.now c.in_err-make.field-0.0 =
-      not_made c.args.text.now calls c.loop-before.before c.saturating_add.result c.call-item.result (playing_of c.loop-before.player) c.in_err-make.field-0.0 script had (omega arith) c.call-item.is c.loop-before.invariant c.saturating_add.ensures c.in_err-make.ensures.refused in
+    not_made c.args.text.now calls c.loop-before.before c.saturating_add.result c.call-item.result (playing_of c.loop-before.player) c.in_err-make.field-0.0 script had (omega arith) c.call-item.is c.loop-before.invariant c.saturating_add.ensures c.in_err-make.ensures.refused in
     search rules
