@@ -1,5 +1,5 @@
 -- Pairs of hexadecimal digits, one after another.
-use Rattle.std.proofs.Common.{◌≡◌, ◌⊎◌, ℕ, List, [], ◌∷◌, ◌++◌, codes, subst, sym, append_assoc, inl, inr}
+use Rattle.std.proofs.Common.{◌≡◌, ◌⊎◌, ℕ, List, [], ◌∷◌, ◌++◌, codes, subst, sym, append_assoc}
 use Rattle.trace_recordings.specs.Scripts.{AreDigitsOf, IsPair}
 
 -- the bytes so far, and then those of the rest

@@ -1,10 +1,8 @@
 -- What a recording shows, from what playing its script answered.
-use Rattle.std.proofs.Common.{◌≡◌, ◌≢◌, ◌⊎◌, ◌↔◌, ℕ, List, [], String, inl, inr, Bor}
+use Rattle.std.proofs.Common.{◌≡◌, ◌≢◌, ◌⊎◌, ◌↔◌, ℕ, List, [], String, inl, inr}
 use Rattle.std.specs.declared.alloc.Global.{Global}
 use Rattle.trace_recordings.specs.declared.player.PlayError.{PlayError}
-use Rattle.trace_recordings.specs.declared.player.PlayError.TheVariants as plays
 use Rattle.trace_recordings.specs.declared.recording.Calls.{Calls}
-use Rattle.trace_recordings.specs.declared.script.call.Call.{Call}
 use Rattle.trace_recordings.specs.Comparisons.{ended}
 use Rattle.trace_recordings.specs.Findings.{ShowsPlayed, ShowsRefused}
 use Rattle.trace_recordings.specs.Playing.{IsPlayed}

@@ -1,8 +1,6 @@
 -- The turns of a script, one after another.
-use Rattle.std.proofs.Common.{◌≡◌, ℕ, ◌+◌, ◌<◌, ◌==◌, true, false, List, [], ◌∷◌, ◌++◌, length, take, get_or, Some, None, Result, Ok, Err, OnOk, refl, sym, ap, subst, append-nil, append_assoc, ◌∙◌}
+use Rattle.std.proofs.Common.{◌≡◌, ℕ, List, [], ◌∷◌, ◌++◌, Some, None, Result, Ok, Err, OnOk, refl, sym, ap, subst, append-nil, append_assoc, ◌∙◌}
 use Rattle.std.specs.List.{AllByRecursion}
-use Rattle.std.proofs.lemmas.Bool.Decides.{Decides-eqb}
-use Rattle.std.proofs.lemmas.List.{reverse-append, take_more}
 use Rattle.trace_writer.specs.declared.encoder.call.Reply.{Reply}
 use Rattle.trace_writer.specs.State.{WriterState}
 use Rattle.trace_writer.specs.Calls.{Action, fresh, header}
@@ -12,7 +10,6 @@ use Rattle.trace_recordings.specs.declared.script.call.Call.{Call}
 use Rattle.trace_recordings.specs.declared.script.call.Call.TheVariants.{Nothing, Define, Register, Event, DefineType, WriteTyped, InternString, InternStack, StringPool, StackPool, Reset, Resume, Raw, Bare}
 use Rattle.trace_recordings.specs.declared.player.PlayError.{PlayError}
 use Rattle.trace_recordings.specs.Playing.{Playing, Schemas, with_reply, start, Asks, IsAsked, IsOfEncoder, IsWritten, Turns, TurnsEach}
-use Rattle.trace_recordings.proofs.ScriptLemmas.{not_equal}
 
 no_action : (a : Action) → None ≡ Some a → ⊥
 no_action a e = cc

@@ -1,5 +1,5 @@
 -- What the program that replays is asked for, and what it answers.
-use Rattle.std.specs.Prelude.{◌≡◌, ◌≢◌, ◌↔◌, ℕ, ◌==◌, Bool, if◌then◌else◌, List, [], ◌∷◌, Result, Ok, Err, String, codes, string_bytes}
+use Rattle.std.specs.Prelude.{◌≡◌, ◌≢◌, ◌↔◌, ℕ, Bool, if◌then◌else◌, List, [], ◌∷◌, Result, Ok, Err, String, codes, string_bytes}
 use Rattle.std.specs.declared.alloc.Global.{Global}
 use Rattle.trace_recordings.specs.declared.player.Played.{Played}
 use Rattle.trace_recordings.specs.declared.player.PlayError.{PlayError}

@@ -1,4 +1,4 @@
-use Rattle.std.proofs.Common.{rules, ◌≡◌, [], string_bytes}
+use Rattle.std.proofs.Common.{rules, ◌≡◌}
 use Rattle.trace_writer.specs.Calls.{fresh, header}
 use Rattle.trace_recordings.proofs.PlayingLemmas.{started}
 use Rattle.trace_recordings.proofs.player.Player.new.Goals as goal
