@@ -1,0 +1,118 @@
+-- The turns of a script, one after another.
+use Rattle.std.proofs.Common.{◌≡◌, ℕ, List, [], ◌∷◌, ◌++◌, Some, None, Result, Ok, Err, OnOk, refl, sym, ap, subst, append-nil, append_assoc, ◌∙◌}
+use Rattle.std.specs.List.{AllByRecursion}
+use Rattle.trace_writer.specs.declared.encoder.call.Reply.{Reply}
+use Rattle.trace_writer.specs.State.{WriterState}
+use Rattle.trace_writer.specs.Calls.{Action, fresh, header}
+use Rattle.trace_writer.specs.Runs.{Plays}
+use Rattle.trace_writer.specs.Headline.{FreshHeadline}
+use Rattle.trace_recordings.specs.declared.script.call.Call.{Call}
+use Rattle.trace_recordings.specs.declared.script.call.Call.TheVariants.{Nothing, Define, Register, Event, DefineType, WriteTyped, InternString, InternStack, StringPool, StackPool, Reset, Resume, Raw, Bare}
+use Rattle.trace_recordings.specs.declared.player.PlayError.{PlayError}
+use Rattle.trace_recordings.specs.Playing.{Playing, Schemas, with_reply, start, Asks, IsAsked, IsOfEncoder, IsWritten, Turns, TurnsEach}
+
+no_action : (a : Action) → None ≡ Some a → ⊥
+no_action a e = cc
+
+-- where the encoder was asked, this is the turn of the call
+turns_asked : (p : Playing) (call : Call) (q : Playing) → IsAsked p call q → Turns p call q
+turns_asked p Nothing q h = absurd (no_action h.2.action h.2.asked)
+turns_asked p (Define handle definition) q h = absurd (no_action h.2.action h.2.asked)
+turns_asked p (Register handle) q h = h
+turns_asked p (Event handle time values) q h = h
+turns_asked p (DefineType handle slot definition) q h = h
+turns_asked p (WriteTyped handle time values) q h = h
+turns_asked p (InternString text) q h = h
+turns_asked p (InternStack frames) q h = h
+turns_asked p (StringPool entries) q h = h
+turns_asked p (StackPool entries) q h = h
+turns_asked p Reset q h = h
+turns_asked p Resume q h = h
+turns_asked p (Raw bytes) q h = absurd (no_action h.2.action h.2.asked)
+turns_asked p Bare q h = absurd (no_action h.2.action h.2.asked)
+
+-- the encoder was asked, and then its reply noted, where that was done
+pub asked_turn : (r : Result (Unit {0}) PlayError) (p : Playing) (call : Call) (reply : Reply) (mid q : Playing) → Asks p call reply mid → OnOk r (q ≡ with_reply (Some reply) mid) → OnOk r (Turns p call q)
+asked_turn (Ok u) p call reply mid q asks noted = turns_asked p call q (reply, mid, asks, noted)
+asked_turn (Err e) p call reply mid q asks noted = tt
+
+-- nothing was done yet
+pub started : (state : WriterState) (defined : Schemas) (bytes replies : List ℕ) → state ≡ fresh → defined ≡ [] → bytes ≡ header → replies ≡ [] → record { state = state; defined = defined; bytes = bytes; replies = replies } ≡ start
+started state defined bytes replies s d b r = rw (s, d, b, r)
+
+-- one more call
+pub TurnsEach-append : (p q r : Playing) (calls : List Call) (call : Call) → TurnsEach p calls q → Turns q call r → TurnsEach p (calls ++ call ∷ []) r
+TurnsEach-append p q r [] call each turn = (r, subst (λ (x : Playing). Turns x call r) each turn, refl)
+TurnsEach-append p q r (c ∷ calls) call each turn = (each.0, each.1, TurnsEach-append each.0 q r calls call each.2 turn)
+
+-- what an encoder sends from p to q, where nothing is put past it
+pub record Written (p q : Playing) : Type 0 where
+  pub actions : List Action
+  pub replies : List Reply
+  pub sent : List ℕ
+  pub plays : Plays p.state actions replies sent q.state
+  pub bytes : q.bytes ≡ p.bytes ++ sent
+
+-- before it, the encoder and the output stay as they are
+quiet : (p q r : Playing) → q.state ≡ p.state → q.bytes ≡ p.bytes → Written q r → Written p r
+quiet p q r state bytes later = record {
+  actions = later.actions;
+  replies = later.replies;
+  sent = later.sent;
+  plays = subst (λ (x : WriterState). Plays x later.actions later.replies later.sent r.state) state later.plays;
+  bytes = later.bytes ∙ ap (λ (b : List ℕ). b ++ later.sent) bytes;
+}
+
+-- before it, the encoder is asked
+asked : (p : Playing) (call : Call) (q r : Playing) → IsAsked p call q → Written q r → Written p r
+asked p call q r h after =
+    let later : Written h.1 r = quiet h.1 q r (ap (λ (x : Playing). x.state) h.3) (ap (λ (x : Playing). x.bytes) h.3) after in
+    let output : h.1.bytes ≡ p.bytes ++ h.2.sent = ap (λ (x : Playing). x.bytes) h.2.output in
+    record {
+      actions = h.2.action ∷ later.actions;
+      replies = h.0 ∷ later.replies;
+      sent = h.2.sent ++ later.sent;
+      plays = (h.1.state, h.2.sent, later.sent, refl, h.2.answered, later.plays);
+      bytes = later.bytes ∙ (ap (λ (b : List ℕ). b ++ later.sent) output ∙ append_assoc p.bytes h.2.sent later.sent);
+    }
+
+-- before it, a turn
+turn : (p : Playing) (call : Call) (q r : Playing) → IsOfEncoder call → Turns p call q → Written q r → Written p r
+turn p Nothing q r plain h later = quiet p q r (ap (λ (x : Playing). x.state) h) (ap (λ (x : Playing). x.bytes) h) later
+turn p (Define handle definition) q r plain h later = quiet p q r (ap (λ (x : Playing). x.state) h) (ap (λ (x : Playing). x.bytes) h) later
+turn p (Register handle) q r plain h later = asked p (Register handle) q r h later
+turn p (Event handle time values) q r plain h later = asked p (Event handle time values) q r h later
+turn p (DefineType handle slot definition) q r plain h later = asked p (DefineType handle slot definition) q r h later
+turn p (WriteTyped handle time values) q r plain h later = asked p (WriteTyped handle time values) q r h later
+turn p (InternString text) q r plain h later = asked p (InternString text) q r h later
+turn p (InternStack frames) q r plain h later = asked p (InternStack frames) q r h later
+turn p (StringPool entries) q r plain h later = asked p (StringPool entries) q r h later
+turn p (StackPool entries) q r plain h later = asked p (StackPool entries) q r h later
+turn p Reset q r plain h later = asked p Reset q r h later
+turn p Resume q r plain h later = asked p Resume q r h later
+turn p (Raw bytes) q r plain h later = absurd plain
+turn p Bare q r plain h later = absurd plain
+
+-- all turns
+turns : (p : Playing) (calls : List Call) (q : Playing) → AllByRecursion IsOfEncoder calls → TurnsEach p calls q → Written p q
+turns p [] q plain h = record {
+  actions = [];
+  replies = [];
+  sent = [];
+  plays = (refl, ap (λ (x : Playing). x.state) h);
+  bytes = ap (λ (x : Playing). x.bytes) h ∙ sym (append-nil p.bytes);
+}
+turns p (call ∷ calls) q plain h = turn p call h.0 q plain.0 h.1 (turns h.0 calls q plain.1 h.2)
+
+-- from the start
+pub written_by : FreshHeadline → (calls : List Call) (last : Playing) → TurnsEach start calls last → AllByRecursion IsOfEncoder calls → IsWritten last
+written_by headline calls last each plain =
+    let w = turns start calls last plain each in
+    record {
+      actions = w.actions;
+      replies = w.replies;
+      sent = w.sent;
+      plays = w.plays;
+      bytes = w.bytes;
+      read = λ faultless. headline w.actions w.replies w.sent last.state w.plays faultless;
+    }

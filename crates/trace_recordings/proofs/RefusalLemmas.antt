@@ -1,0 +1,90 @@
+-- Why a script was not played, from the call at which playing stopped.
+use Rattle.std.proofs.Common.{◌≡◌, ℕ, zero, suc, ◌+◌, ◌<◌, true, false, List, [], ◌∷◌, ◌++◌, length, take, get_or, None, Result, Ok, Err, IfErr, refl, sym, ap, ◌∙◌, arith}
+use Rattle.std.specs.List.{AllByRecursion}
+use Rattle.std.proofs.lemmas.List.{take_more}
+use Rattle.trace_recordings.specs.declared.player.PlayError.{PlayError}
+use Rattle.trace_recordings.specs.declared.player.PlayError.TheVariants as plays
+use Rattle.trace_recordings.specs.declared.script.call.Call.{Call}
+use Rattle.trace_recordings.specs.Playing.{Playing, Schemas, TurnsEach, schema_under, start}
+use Rattle.trace_recordings.specs.Refusals.{FirstMissing, IsHad, IsOfPlayer, LeavesOut, Names, NamesUnknown, Refuses, RefusesCall, RefusesUnder, misses}
+use Rattle.trace_recordings.specs.Scripts.{IsScript, word_of}
+use Rattle.trace_recordings.specs.Tallies.{counted_on}
+
+-- one more that the library has
+had_last : (calls : List Call) (call : Call) → AllByRecursion IsHad calls → misses call ≡ false → AllByRecursion IsHad (calls ++ call ∷ [])
+had_last [] call all had = (had, tt)
+had_last (c ∷ calls) call all had = (all.0, had_last calls call all.1 had)
+
+pub had_more : (calls : List Call) (i : ℕ) (call : Call) → i < length calls → call ≡ get_or calls i call → AllByRecursion IsHad (take i calls) → misses call ≡ false → AllByRecursion IsHad (take (i + 1) calls)
+had_more calls i call inside is all had = rw (take_more calls i call inside, ← is) (had_last (take i calls) call all had)
+
+-- each of those that the library has
+had_at : (calls : List Call) (i : ℕ) (call : Call) → i < length calls → call ≡ get_or calls i call → AllByRecursion IsHad calls → misses call ≡ false
+had_at [] i call inside is all = absurd (omega (arith, inside))
+had_at (c ∷ calls) zero call inside is all = ap misses is ∙ all.0
+had_at (c ∷ calls) (suc i) call inside is all = had_at calls i call (omega (arith, inside)) is all.1
+
+-- a call, with those before and after it
+parts_at : (calls : List Call) (i : ℕ) (call : Call) → i < length calls → call ≡ get_or calls i call → (after : List Call) × (calls ≡ take i calls ++ call ∷ after)
+parts_at [] i call inside is = absurd (omega (arith, inside))
+parts_at (c ∷ calls) zero call inside is = (calls, ap (λ x. x ∷ calls) (sym is))
+parts_at (c ∷ calls) (suc i) call inside is =
+    let later = parts_at calls i call (omega (arith, inside)) is in
+    (later.0, ap (λ x. c ∷ x) later.1)
+
+front_length : (calls : List Call) (i : ℕ) → i < length calls → length (take i calls) ≡ i
+front_length [] i inside = absurd (omega (arith, inside))
+front_length (c ∷ calls) zero inside = refl
+front_length (c ∷ calls) (suc i) inside = omega (arith, front_length calls i (omega (arith, inside)))
+
+counted : (calls : List Call) (i line : ℕ) → i < length calls → line ≡ counted_on i 1 → line ≡ counted_on (length (take i calls)) 1
+counted calls i line inside n = n ∙ ap (λ (k : ℕ). counted_on k 1) (sym (front_length calls i inside))
+
+pub first_missing : (calls : List Call) (i line : ℕ) (call : Call) (word : List ℕ) → i < length calls → call ≡ get_or calls i call → AllByRecursion IsHad (take i calls) → misses call ≡ true → line ≡ counted_on i 1 → word ≡ word_of call → FirstMissing calls line word
+first_missing calls i line call word inside is had missing n w =
+    let parts = parts_at calls i call inside is in
+    record { before = take i calls; call = call; after = parts.0; parts = parts.1; had = had; missing = missing; counts = counted calls i line inside n; word_is = w }
+
+names_unknown : (calls : List Call) (i line handle : ℕ) (call : Call) (reached : Playing) → i < length calls → call ≡ get_or calls i call → TurnsEach start (take i calls) reached → line ≡ counted_on i 1 → Names call handle → schema_under reached.defined handle ≡ None → NamesUnknown calls line handle
+names_unknown calls i line handle call reached inside is turns n names none =
+    let parts = parts_at calls i call inside is in
+    record { before = take i calls; call = call; after = parts.0; parts = parts.1; counts = counted calls i line inside n; reached = reached; turns = turns; names = names; unknown = none }
+
+-- a call was not made
+pub not_made : (text : List ℕ) (calls : List Call) (i line : ℕ) (call : Call) (reached : Playing) (e : PlayError) → IsScript calls text → AllByRecursion IsHad calls → i < length calls → call ≡ get_or calls i call → TurnsEach start (take i calls) reached → line ≡ counted_on i 1
+    → RefusesCall reached line call e → Refuses text e
+not_made text calls i line call reached (plays.Script error) script had inside is turns n r = absurd r
+not_made text calls i line call reached (plays.LeftOut other word) script had inside is turns n r =
+    absurd (let wrong : true ≡ false = sym r ∙ had_at calls i call inside is had in cc)
+not_made text calls i line call reached (plays.Unknown other handle) script had inside is turns n r =
+    (calls, script, names_unknown calls i other handle call reached inside is turns (r.0 ∙ n) r.1 r.2)
+not_made text calls i line call reached (plays.Encoder error) script had inside is turns n r = tt
+not_made text calls i line call reached plays.Memory script had inside is turns n r = tt
+
+-- the script was not begun
+pub not_begun : (text : List ℕ) (calls : List Call) (e : PlayError) → IsScript calls text → LeavesOut calls e → Refuses text e
+not_begun text calls (plays.Script error) script r = absurd r
+not_begun text calls (plays.LeftOut line word) script r = (calls, script, r)
+not_begun text calls (plays.Unknown line handle) script r = absurd r
+not_begun text calls (plays.Encoder error) script r = absurd r
+not_begun text calls plays.Memory script r = absurd r
+
+-- no player was made
+pub no_player : (text : List ℕ) (e : PlayError) → IsOfPlayer e → Refuses text e
+no_player text (plays.Script error) r = absurd r
+no_player text (plays.LeftOut line word) r = absurd r
+no_player text (plays.Unknown line handle) r = absurd r
+no_player text (plays.Encoder error) r = tt
+no_player text plays.Memory r = tt
+
+-- the player had no memory for a call
+pub no_memory : (defined : Schemas) (line : ℕ) (call : Call) (e : PlayError) → IsOfPlayer e → RefusesUnder defined line call e
+no_memory defined line call (plays.Script error) r = absurd r
+no_memory defined line call (plays.LeftOut other word) r = absurd r
+no_memory defined line call (plays.Unknown other handle) r = absurd r
+no_memory defined line call (plays.Encoder error) r = tt
+no_memory defined line call plays.Memory r = tt
+
+pub no_memory_in : {A : Type 0} (r : Result A PlayError) (p : Playing) (line : ℕ) (call : Call) → IfErr r IsOfPlayer → IfErr r (RefusesCall p line call)
+no_memory_in (Ok u) p line call h = tt
+no_memory_in (Err e) p line call h = no_memory p.defined line call e h

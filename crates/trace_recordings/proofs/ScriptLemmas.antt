@@ -1,0 +1,87 @@
+-- Lines of a script, one after another.
+use Rattle.std.proofs.Common.{◌≡◌, ℕ, ◌+◌, ◌-◌, ◌<◌, ◌==◌, List, [], ◌∷◌, ◌++◌, length, take, drop, get_or, false, Option, Some, None, refl, sym, ◌∙◌, ap, subst, append_assoc, arith}
+use Rattle.std.specs.List.{position_or_len}
+use Rattle.std.proofs.lemmas.Bool.Decides.{Decides-eqb, nat_tests}
+use Rattle.std.proofs.lemmas.Grind.{common_steps}
+use Rattle.std.proofs.lemmas.List.Elements.{All-from_get_or}
+use Rattle.std.proofs.lemmas.List.Splits.{slice_split_first, slice_split_none}
+use Rattle.std.proofs.lemmas.List.Sums.{position_or_len_is}
+use Rattle.trace_recordings.specs.declared.script.call.Call.{Call}
+use Rattle.trace_recordings.specs.Scripts.{Says, SayEach, lines_of, IsScript, IsBrokenAt, IsFirstLine, GainsCall}
+use Rattle.trace_recordings.specs.Tallies.{counted_on}
+
+pub not_equal : (x y : ℕ) → (x ≡ y → ⊥) → (x == y) ≡ false
+not_equal x y h = grind (arith, nat_tests)
+
+-- one more line, and the call that it says
+SayEach-append : (lines : List (List ℕ)) (calls : List Call) (line : List ℕ) (call : Call) → SayEach lines calls → Says call line → SayEach (lines ++ line ∷ []) (calls ++ call ∷ [])
+SayEach-append [] [] line call each says = (says, tt)
+SayEach-append [] (c ∷ calls) line call each says = absurd each
+SayEach-append (l ∷ lines) [] line call each says = absurd each
+SayEach-append (l ∷ lines) (c ∷ calls) line call each says = (each.0, SayEach-append lines calls line call each.1 says)
+
+-- the lines of the text say the calls, up to those of the rest
+pub record SayFront (text : List ℕ) (calls : List Call) (rest : List ℕ) : Type 0 where
+  pub front : List (List ℕ)
+  pub said : SayEach front calls
+  pub parts : lines_of text ≡ front ++ lines_of rest
+
+pub at_start : (text : List ℕ) → SayFront text [] text
+at_start text = record { front = []; said = tt; parts = refl }
+
+-- a further line, with more behind it
+pub one_more : (text rest more line : List ℕ) (calls gained : List Call) → SayFront text calls rest → IsFirstLine rest line (Some more) → GainsCall calls gained line → SayFront text gained more
+one_more text rest more line calls gained before first gains = record {
+  front = before.front ++ line ∷ [];
+  said = let said : SayEach (before.front ++ line ∷ []) (calls ++ gains.call ∷ []) = SayEach-append before.front calls line gains.call before.said gains.says in subst (λ (c : List Call). SayEach (before.front ++ line ∷ []) c) (sym gains.gained) said;
+  parts = before.parts ∙ ap (λ (t : List (List ℕ)). before.front ++ t) first ∙ sym (append_assoc before.front (line ∷ []) (lines_of more));
+}
+
+-- the last line
+pub the_last : (text rest line : List ℕ) (calls gained : List Call) → SayFront text calls rest → IsFirstLine rest line None → GainsCall calls gained line → IsScript gained text
+unfolding IsScript
+the_last text rest line calls gained before first gains =
+    let said : SayEach (before.front ++ line ∷ []) (calls ++ gains.call ∷ []) = SayEach-append before.front calls line gains.call before.said gains.says in
+    let lines : lines_of text ≡ before.front ++ line ∷ [] = before.parts ∙ ap (λ (t : List (List ℕ)). before.front ++ t) first in
+    rw (gains.gained, lines) said
+
+as_many : (lines : List (List ℕ)) (calls : List Call) → SayEach lines calls → length lines ≡ length calls
+as_many [] [] each = refl
+as_many [] (c ∷ calls) each = absurd each
+as_many (l ∷ lines) [] each = absurd each
+as_many (l ∷ lines) (c ∷ calls) each = omega (arith, as_many lines calls each.1)
+
+-- the next line is broken
+pub broken_at : (text rest line : List ℕ) (more : Option (List ℕ)) (calls : List Call) (number : ℕ) → SayFront text calls rest → IsFirstLine rest line more → number ≡ counted_on (length calls) 1 → IsBrokenAt text number
+broken_at text rest line None calls number front first n = record {
+  before = front.front;
+  calls = calls;
+  said = front.said;
+  broken = line;
+  after = [];
+  parts = front.parts ∙ ap (λ (t : List (List ℕ)). front.front ++ t) first;
+  counts = n ∙ ap (λ (k : ℕ). counted_on k 1) (sym (as_many front.front calls front.said));
+}
+broken_at text rest line (Some more) calls number front first n = record {
+  before = front.front;
+  calls = calls;
+  said = front.said;
+  broken = line;
+  after = lines_of more;
+  parts = front.parts ∙ ap (λ (t : List (List ℕ)). front.front ++ t) first;
+  counts = n ∙ ap (λ (k : ℕ). counted_on k 1) (sym (as_many front.front calls front.said));
+}
+
+-- a line feed, and none before it
+pub feed_at : (text : List ℕ) (at : ℕ) → at < length text → get_or text at 0 ≡ 10 → ((k : ℕ) → k < at → get_or text k 0 ≡ 10 → ⊥) → lines_of text ≡ take at text ∷ lines_of (take (length text - (at + 1)) (drop (at + 1) text))
+feed_at text at inside here before =
+    let none : (k : ℕ) → k < at → (get_or text k 0 == 10) ≡ false = λ k h. not_equal (get_or text k 0) 10 (before k h) in
+    let place : position_or_len (λ b. b == 10) text ≡ at = position_or_len_is (λ b. b == 10) text at 0 (omega arith) none (λ _. (Decides-eqb (get_or text at 0) 10).1 here) in
+    let near : position_or_len (λ b. b == 10) text < length text = rw place inside in
+    let parts = slice_split_first (λ b. b == 10) text 0 near in
+    let whole : take (length text - (at + 1)) (drop (at + 1) text) ≡ drop (at + 1) text = grind (arith, common_steps) in
+    rw whole (rw place at parts)
+
+-- no line feed
+pub no_feed : (text : List ℕ) → ((k : ℕ) → k < length text → get_or text k 0 ≡ 10 → ⊥) → lines_of text ≡ text ∷ []
+no_feed text none = slice_split_none (λ b. b == 10) text (All-from_get_or (λ b. (b == 10) ≡ false) text 0 (λ k h. not_equal (get_or text k 0) 10 (none k h)))

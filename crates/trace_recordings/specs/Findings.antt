@@ -1,0 +1,57 @@
+-- What a recording shows.
+use Rattle.std.specs.Prelude.{◌≡◌, ◌≢◌, ◌⊎◌, ◌↔◌, ℕ, List, [], Option, Some, None, Ok, String}
+use Rattle.std.specs.declared.alloc.Global.{Global}
+use Rattle.hex.specs.Hex.{decode_of}
+use Rattle.trace_lines.specs.Dumps.{IsDump}
+use Rattle.trace_recordings.specs.declared.findings.Outcome.{Outcome}
+use Rattle.trace_recordings.specs.declared.findings.Outcome.TheVariants.{Absent, LeftOut, Compared}
+use Rattle.trace_recordings.specs.declared.player.PlayError.{PlayError}
+use Rattle.trace_recordings.specs.declared.recording.Calls.{Calls}
+use Rattle.trace_recordings.specs.declared.recording.Recording.{Recording}
+use Rattle.trace_recordings.specs.declared.script.call.Call.{Call}
+use Rattle.trace_recordings.specs.Comparisons.{ended}
+use Rattle.trace_recordings.specs.Playing.{IsPlayed}
+use Rattle.trace_recordings.specs.Refusals.{Refuses, FirstMissing}
+use Rattle.trace_recordings.specs.Scripts.{IsScript}
+
+-- the trace has a dump, and no difference is told exactly where the recorded lines are that dump
+abbrev pub ShowsDump : List ℕ → List ℕ → Outcome → Type 0
+ShowsDump trace lines Absent = ⊥
+ShowsDump trace lines (LeftOut name) = ⊥
+ShowsDump trace lines (Compared notes) = (status : ℕ) × (text : List ℕ) × IsDump trace status text × ((notes.items ≡ []) ↔ (ended lines ≡ text))
+
+-- the script was played, and no difference is told exactly where the trace and the recorded replies are what its calls make
+pub record ShowsPlayed (trace : List ℕ) (calls : Calls) (notes : List (String Global)) : Type 0 where
+  pub bytes : List ℕ
+  pub replies : List ℕ
+  pub played : IsPlayed calls.script.now bytes replies
+  pub none_told : (notes ≡ []) ↔ ((trace ≡ bytes) × (ended calls.replies.now ≡ replies))
+
+-- the script was not played, and that is told
+abbrev pub ShowsRefused : Calls → List (String Global) → Type 0
+ShowsRefused calls notes = (error : PlayError) × Refuses calls.script.now error × (notes ≢ [])
+
+-- a script was compared; or it is read whole and has a call that the library has not, of which the first has this name
+abbrev pub ShowsCalls : List ℕ → Calls → Outcome → Type 0
+ShowsCalls trace calls Absent = ⊥
+ShowsCalls trace calls (LeftOut name) = (script : List Call) × IsScript script calls.script.now × (line : ℕ) × FirstMissing script line name.now
+ShowsCalls trace calls (Compared notes) = ShowsPlayed trace calls notes.items ⊎ ShowsRefused calls notes.items
+
+-- the same of a recording, which may have no script
+abbrev pub ShowsScript : List ℕ → Option Calls → Outcome → Type 0
+ShowsScript trace None outcome = outcome ≡ Absent
+ShowsScript trace (Some calls) outcome = ShowsCalls trace calls outcome
+
+-- what is shown of the trace, where the digits of the recorded bytes can be read
+abbrev pub WhereRead : Recording → (List ℕ → Type 0) → Type 0
+WhereRead r shown = (trace : List ℕ) → decode_of r.bytes.now ≡ Ok trace → shown trace
+
+-- the digits of the recorded bytes cannot be read
+abbrev pub IsUnread : Recording → Type 0
+IsUnread r = WhereRead r (λ trace. ⊥)
+
+-- nothing is compared, and a difference is told
+abbrev pub ShowsUnread : Outcome → Outcome → Type 0
+ShowsUnread script Absent = ⊥
+ShowsUnread script (LeftOut name) = ⊥
+ShowsUnread script (Compared notes) = (script ≡ Absent) × (notes.items ≢ [])

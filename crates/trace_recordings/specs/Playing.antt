@@ -1,0 +1,188 @@
+-- What playing a script makes.
+use Rattle.std.specs.Prelude.{◌≡◌, ◌≢◌, ⊤, ℕ, Bool, true, false, List, [], ◌∷◌, ◌++◌, Option, Some, None, Vec, map, codes, decimal, string_bytes}
+use Rattle.std.specs.Option.{option_map}
+use Rattle.std.specs.List.{AllByRecursion}
+use Rattle.std.specs.Ordering.{nat_cmp}
+use Rattle.std.specs.BTreeMap.{insert_entry, is_at}
+use Rattle.std.specs.Map.{lookup}
+use Rattle.trace_values.specs.declared.leb128.error.EncodeError.{EncodeError}
+use Rattle.trace_values.specs.declared.leb128.error.EncodeError.TheVariants as errors
+use Rattle.trace_values.specs.IdTexts.{pool_text, stack_text}
+use Rattle.trace_values.specs.View.{views}
+use Rattle.trace_wire.specs.Schemas as schemas
+use Rattle.trace_writer.specs.declared.encoder.call.Reply.{Reply}
+use Rattle.trace_writer.specs.declared.encoder.call.Reply.TheVariants.{Done, WireId, Text, Stack, Refused}
+use Rattle.trace_writer.specs.State.{EncoderView, WriterState}
+use Rattle.std.specs.declared.alloc.Global.{Global}
+use Rattle.trace_values.specs.Sending.{telling}
+use Rattle.trace_writer.specs.Calls.{Action, Does, register, write_event, intern_string, write_string_pool, intern_stack, write_stack_pool, Answered, fresh_state, header}
+use Rattle.trace_writer.specs.Runs.{Plays}
+use Rattle.trace_writer.specs.Headline.{AreFaultless, IsRead, frames_played}
+use Rattle.trace_recordings.specs.declared.script.call.Call.{Call}
+use Rattle.trace_recordings.specs.declared.script.call.Call.TheVariants.{Nothing, Define, Register, Event, InternString, InternStack, StringPool, StackPool, Raw, Bare}
+use Rattle.trace_recordings.specs.declared.script.definitions.Annotation.{Annotation}
+use Rattle.trace_recordings.specs.declared.script.definitions.Definition.{Definition}
+use Rattle.trace_recordings.specs.declared.script.pools.PoolText.{PoolText}
+use Rattle.trace_recordings.specs.declared.script.pools.PoolStack.{PoolStack}
+use Rattle.trace_recordings.specs.declared.player.Player.{Player}
+use Rattle.trace_recordings.specs.declared.player.PlayError.{PlayError}
+use Rattle.trace_recordings.specs.declared.player.PlayError.TheVariants as plays
+use Rattle.trace_recordings.specs.declared.script.fault.Fault.TheVariants as faults
+use Rattle.trace_recordings.specs.Scripts.{IsScript}
+
+-- the script is at fault, and not want of memory
+abbrev pub IsOfScript : PlayError → Type 0
+IsOfScript (plays.Script error) = error.fault ≢ faults.Memory
+IsOfScript (plays.LeftOut line call) = ⊤
+IsOfScript (plays.Unknown line handle) = ⊤
+IsOfScript (plays.Encoder error) = ⊥
+IsOfScript plays.Memory = ⊥
+
+-- ---- the line of a reply
+
+-- a refusal: its number and name, and the field of a misfit
+abbrev pub refusal_text : EncodeError → List ℕ
+refusal_text errors.Conflict = codes "refused 1 Conflict"
+refusal_text errors.ValueCount = codes "refused 2 ValueCount"
+refusal_text (errors.Misfit field) = codes "refused 3 Misfit " ++ decimal field
+refusal_text errors.TooLong = codes "refused 4 TooLong"
+refusal_text errors.IdsUsedUp = codes "refused 5 IdsUsedUp"
+refusal_text errors.SlotTaken = codes "refused 6 SlotTaken"
+refusal_text errors.SlotUntimed = codes "refused 7 SlotUntimed"
+refusal_text errors.ByteCount = codes "refused 8 ByteCount"
+refusal_text errors.OutOfMemory = codes "refused 9 OutOfMemory"
+refusal_text (errors.Writer kind) = codes "refused 10 Writer"
+refusal_text errors.Failed = codes "refused 11 Failed"
+
+-- a reply, and `-` where the encoder was not called
+abbrev pub reply_text : Option Reply → List ℕ
+reply_text None = codes "-"
+reply_text (Some Done) = codes "done"
+reply_text (Some (WireId id)) = codes "wire " ++ decimal id.0
+reply_text (Some (Text id)) = pool_text id.0
+reply_text (Some (Stack id)) = stack_text id.0
+reply_text (Some (Refused e)) = refusal_text e
+
+-- a reply, and how many bytes the encoder had written behind it
+unfoldable pub reply_line : Option Reply → ℕ → List ℕ
+reply_line reply count = reply_text reply ++ codes " bytes=" ++ decimal count ++ codes "\n"
+
+-- ---- what a call asks of an encoder
+
+abbrev pub annotation_of : Annotation → schemas.Annotation
+annotation_of a = record { index = a.index; key = string_bytes a.key; value = string_bytes a.value }
+
+-- the schema that a definition says
+abbrev pub entry_of : Definition → schemas.Entry
+entry_of d = record { name = string_bytes d.name; fields = d.fields.items; annotations = map annotation_of d.annotations.items }
+
+abbrev pub pool_text_of : PoolText → ℕ × List ℕ
+pool_text_of e = (e.id, e.bytes.items)
+
+abbrev pub pool_stack_of : PoolStack → ℕ × List ℕ
+pool_stack_of e = (e.id, e.frames.items)
+
+-- the schemas of a script by their handles
+abbrev pub Schemas : Type 0
+Schemas = List (ℕ × schemas.Entry)
+
+-- the schema under a handle
+abbrev pub schema_under : Schemas → ℕ → Option schemas.Entry
+schema_under defined handle = lookup (is_at (nat_cmp handle)) defined
+
+-- what a call asks of an encoder, behind these definitions
+abbrev pub action_of : Schemas → Call → Option Action
+action_of defined (Register handle) = option_map (λ e. register e) (schema_under defined handle)
+action_of defined (Event handle time values) = option_map (λ e. write_event e time (views values.items)) (schema_under defined handle)
+action_of defined (InternString text) = Some (intern_string (string_bytes text))
+action_of defined (InternStack frames) = Some (intern_stack frames.items)
+action_of defined (StringPool entries) = Some (write_string_pool (map pool_text_of entries.items))
+action_of defined (StackPool entries) = Some (write_stack_pool (map pool_stack_of entries.items))
+action_of defined other = None
+
+-- the call asks something of an encoder, or would
+abbrev pub asks : Call → Bool
+asks Nothing = false
+asks (Define handle definition) = false
+asks (Raw bytes) = false
+asks Bare = false
+asks call = true
+
+-- an encoder over a list of bytes gives this answer to what a call asks of it
+abbrev pub DoesCall : Schemas → EncoderView (Vec ℕ Global) → EncoderView (Vec ℕ Global) → Call → Reply → Type 0
+DoesCall defined old new call reply = (action : Action) × (action_of defined call ≡ Some action) × Does (λ v. telling (Some v.items)) old action reply new
+
+-- ---- the turns of a script
+
+-- what playing has come to: the state of the encoder, the definitions, the output and the lines of the replies
+pub record Playing : Type 0 where
+  pub state : WriterState
+  pub defined : Schemas
+  pub bytes : List ℕ
+  pub replies : List ℕ
+
+-- a new encoder, whose header stands in the output
+abbrev pub start : Playing
+start = record { state = fresh_state; defined = []; bytes = header; replies = [] }
+
+abbrev pub playing_of : Player → Playing
+playing_of p = record { state = p.encoder.state; defined = p.schemas.entries; bytes = p.played.bytes.items; replies = string_bytes p.played.replies }
+
+-- the line of a reply comes behind the others
+abbrev pub with_reply : Option Reply → Playing → Playing
+with_reply reply p = record p { replies = p.replies ++ reply_line reply p.state.count }
+
+-- the schema of a definition stands under its handle; one that stood there before goes
+abbrev pub with_schema : ℕ → Definition → Playing → Playing
+with_schema handle definition p = record p { defined = insert_entry nat_cmp p.defined handle (entry_of definition) }
+
+-- the encoder gives this answer to what a call asks of it, and what it sends comes behind the output
+pub record Asks (p : Playing) (call : Call) (reply : Reply) (q : Playing) : Type 0 where
+  pub action : Action
+  pub asked : action_of p.defined call ≡ Some action
+  pub sent : List ℕ
+  pub answered : Answered p.state action reply sent q.state
+  pub output : q ≡ record p { state = q.state; bytes = p.bytes ++ sent }
+
+-- the encoder is asked, and its reply noted
+abbrev pub IsAsked : Playing → Call → Playing → Type 0
+IsAsked p call q = (reply : Reply) × (mid : Playing) × Asks p call reply mid × (q ≡ with_reply (Some reply) mid)
+
+-- a call of a script leads from p to q
+abbrev pub Turns : Playing → Call → Playing → Type 0
+Turns p Nothing q = q ≡ p
+Turns p (Define handle definition) q = q ≡ with_reply None (with_schema handle definition p)
+Turns p (Raw bytes) q = q ≡ with_reply None (record p { bytes = p.bytes ++ bytes.items })
+Turns p Bare q = q ≡ with_reply None (record p { bytes = [] })
+Turns p call q = IsAsked p call q
+
+-- calls lead from p to q, one after another
+abbrev pub TurnsEach : Playing → List Call → Playing → Type 0
+TurnsEach p [] q = q ≡ p
+TurnsEach p (call ∷ calls) q = (mid : Playing) × Turns p call mid × TurnsEach mid calls q
+
+-- the call puts nothing past the encoder, and takes nothing away
+abbrev pub IsOfEncoder : Call → Type 0
+IsOfEncoder (Raw bytes) = ⊥
+IsOfEncoder Bare = ⊥
+IsOfEncoder call = Unit {0}
+
+-- The output is the header and what a new encoder sends where it answers calls so one after another; and where its writer never
+-- failed, a reader takes exactly the frames of the accepted calls.
+pub record IsWritten (last : Playing) : Type 0 where
+  pub actions : List Action
+  pub replies : List Reply
+  pub sent : List ℕ
+  pub plays : Plays fresh_state actions replies sent last.state
+  pub bytes : last.bytes ≡ header ++ sent
+  pub read : AreFaultless replies → IsRead fresh_state sent (frames_played fresh_state actions replies) last.state
+
+-- the text is a script, whose calls on a new encoder make the bytes and the replies
+pub record IsPlayed (text bytes replies : List ℕ) : Type 0 where
+  pub calls : List Call
+  pub script : IsScript calls text
+  pub last : Playing
+  pub turns : TurnsEach start calls last
+  pub written : AllByRecursion IsOfEncoder calls → IsWritten last
+  pub same_bytes : bytes ≡ last.bytes
+  pub same_replies : replies ≡ last.replies

@@ -1,0 +1,25 @@
+-- What the program that replays is asked for, and what it answers.
+use Rattle.std.specs.Prelude.{◌≡◌, ◌≢◌, ◌↔◌, ℕ, Bool, if◌then◌else◌, List, [], ◌∷◌, Result, Ok, Err, String, codes, string_bytes}
+use Rattle.std.specs.declared.alloc.Global.{Global}
+use Rattle.trace_recordings.specs.declared.player.Played.{Played}
+use Rattle.trace_recordings.specs.declared.player.PlayError.{PlayError}
+use Rattle.trace_recordings.specs.declared.program.Answer.{Answer}
+use Rattle.trace_recordings.specs.declared.program.Task.{Task}
+use Rattle.trace_recordings.specs.declared.program.Task.TheVariants.{ReplaySets, PlayInput, Usage}
+use Rattle.trace_recordings.specs.Playing.{IsOfScript}
+
+-- no word asks for the sets, the one word `-` for a script from standard input, and all else for the usage
+abbrev pub AsksFor : List (String Global) → Task → Type 0
+AsksFor words ReplaySets = words ≡ []
+AsksFor words PlayInput = (word : String Global) × (words ≡ word ∷ []) × (string_bytes word ≡ codes "-")
+AsksFor words Usage = (words ≢ []) × ((word : String Global) → words ≡ word ∷ [] → string_bytes word ≢ codes "-")
+
+-- once a set differs, the status says so
+abbrev pub status_with : ℕ → Bool → ℕ
+status_with status differs = if differs then 1 else status
+
+-- a script that was played ends with status 0, its trace and its replies; one that was not has no trace, and ends with status 2
+-- where the script is at fault, and with 1 where it is not
+abbrev pub Answers : Result Played PlayError → Answer → Type 0
+Answers (Ok played) answer = (answer.status ≡ 0) × (answer.output.items ≡ played.bytes.items) × (string_bytes answer.notes ≡ string_bytes played.replies)
+Answers (Err error) answer = (answer.output.items ≡ []) × ((answer.status ≡ 2) ↔ IsOfScript error) × ((answer.status ≡ 1) ↔ (IsOfScript error → ⊥))

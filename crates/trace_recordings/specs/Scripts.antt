@@ -1,0 +1,105 @@
+-- How the calls of a script stand in its lines.
+use Rattle.std.specs.Prelude.{◌≡◌, ◌⊎◌, ℕ, ◌-◌, ◌==◌, Bool, true, List, [], ◌∷◌, ◌++◌, length, slice_get, Option, Some, None, Ok, codes, decimal, string_bytes}
+use Rattle.std.specs.List.{flat_map, slice_split}
+use Rattle.hex.specs.Hex.{decode_of}
+use Rattle.trace_values.specs.Values.{Value}
+use Rattle.trace_values.specs.View.{views}
+use Rattle.trace_lines.specs.Lines.{quoted, address_list, spaced_value}
+use Rattle.trace_recordings.specs.declared.script.call.Call.{Call}
+use Rattle.trace_recordings.specs.declared.script.call.Call.TheVariants.{Nothing, Define, Register, Event, DefineType, WriteTyped, InternString, InternStack, StringPool, StackPool, Reset, Resume, Raw, Bare}
+use Rattle.trace_recordings.specs.Definitions.{definition_text}
+use Rattle.trace_recordings.specs.Tallies.{counted_on}
+use Rattle.trace_recordings.specs.Pools.{pool_text_text, pool_stack_text}
+
+-- an event: a handle, a time, and each value
+unfoldable pub event_text : ℕ → ℕ → List Value → List ℕ
+event_text handle time values = decimal handle ++ codes " " ++ decimal time ++ flat_map spaced_value values
+
+-- the text is the two hexadecimal digits of a byte
+abbrev pub IsPair : ℕ → List ℕ → Type 0
+IsPair byte text = decode_of text ≡ Ok (byte ∷ [])
+
+-- the text is the pairs of hexadecimal digits of one byte or more; a space may stand between two pairs
+abbrev pub AreDigitsOf : List ℕ → List ℕ → Type 0
+AreDigitsOf [] text = ⊥
+AreDigitsOf (byte ∷ []) text = IsPair byte text
+AreDigitsOf (byte ∷ (next ∷ bytes)) text = (pair : List ℕ) × (rest : List ℕ) × IsPair byte pair × ((text ≡ pair ++ rest) ⊎ (text ≡ pair ++ codes " " ++ rest)) × AreDigitsOf (next ∷ bytes) rest
+
+-- the line is empty, or begins with `#`
+abbrev pub is_silent : List ℕ → Bool
+is_silent [] = true
+is_silent (b ∷ bs) = b == 35
+
+-- the word by which a line of the call begins
+abbrev pub word_of : Call → List ℕ
+word_of Nothing = []
+word_of (Define handle definition) = codes "define"
+word_of (Register handle) = codes "register"
+word_of (Event handle time values) = codes "event"
+word_of (DefineType handle slot definition) = codes "type"
+word_of (WriteTyped handle time values) = codes "write"
+word_of (InternString text) = codes "string"
+word_of (InternStack frames) = codes "stack"
+word_of (StringPool entries) = codes "strings"
+word_of (StackPool entries) = codes "stacks"
+word_of Reset = codes "reset"
+word_of Resume = codes "resume"
+word_of (Raw bytes) = codes "raw"
+word_of Bare = codes "bare"
+
+-- the line says the call
+abbrev pub Says : Call → List ℕ → Type 0
+Says Nothing line = is_silent line ≡ true
+Says (Define handle definition) line = line ≡ codes "define " ++ decimal handle ++ codes " " ++ definition_text definition
+Says (Register handle) line = line ≡ codes "register " ++ decimal handle
+Says (Event handle time values) line = line ≡ codes "event " ++ event_text handle time (views values.items)
+Says (DefineType handle slot definition) line = line ≡ codes "type " ++ decimal handle ++ codes " " ++ decimal slot ++ codes " " ++ definition_text definition
+Says (WriteTyped handle time values) line = line ≡ codes "write " ++ event_text handle time (views values.items)
+Says (InternString text) line = line ≡ codes "string " ++ quoted (string_bytes text)
+Says (InternStack frames) line = line ≡ codes "stack " ++ address_list frames.items
+Says (StringPool entries) line = line ≡ codes "strings" ++ flat_map pool_text_text entries.items
+Says (StackPool entries) line = line ≡ codes "stacks" ++ flat_map pool_stack_text entries.items
+Says Reset line = line ≡ codes "reset"
+Says Resume line = line ≡ codes "resume"
+Says (Raw bytes) line = (digits : List ℕ) × (line ≡ codes "raw " ++ digits) × AreDigitsOf bytes.items digits
+Says Bare line = line ≡ codes "bare"
+
+-- each line says the call of its place
+abbrev pub SayEach : List (List ℕ) → List Call → Type 0
+SayEach [] [] = Unit {0}
+SayEach [] (call ∷ calls) = ⊥
+SayEach (line ∷ lines) [] = ⊥
+SayEach (line ∷ lines) (call ∷ calls) = Says call line × SayEach lines calls
+
+-- the lines of a text
+abbrev pub lines_of : List ℕ → List (List ℕ)
+lines_of text = slice_split (λ b. b == 10) text
+
+-- the lines of the text say the calls
+unfoldable pub IsScript : List Call → List ℕ → Type 0
+IsScript calls text = SayEach (lines_of text) calls
+
+-- The lines before this one say calls, and this one cannot be read. Lines count from 1.
+pub record IsBrokenAt (text : List ℕ) (line : ℕ) : Type 0 where
+  pub before : List (List ℕ)
+  pub calls : List Call
+  pub said : SayEach before calls
+  pub broken : List ℕ
+  pub after : List (List ℕ)
+  pub parts : lines_of text ≡ before ++ broken ∷ after
+  pub counts : line ≡ counted_on (length before) 1
+
+-- the last byte of the line is a carriage return
+abbrev pub EndsWithReturn : List ℕ → Type 0
+EndsWithReturn line = slice_get line (length line - 1) ≡ Some 13
+
+-- the first line of the text, and what stands behind it
+abbrev pub IsFirstLine : List ℕ → List ℕ → Option (List ℕ) → Type 0
+IsFirstLine text line None = lines_of text ≡ line ∷ []
+IsFirstLine text line (Some rest) = lines_of text ≡ line ∷ lines_of rest
+
+-- one more call, which the line says
+pub record GainsCall (old new : List Call) (line : List ℕ) : Type 0 where
+  pub call : Call
+  pub says : Says call line
+  pub gained : new ≡ old ++ call ∷ []

@@ -1,0 +1,10 @@
+//! Recorded scripts of encoder calls, and recorded traces, compared with the library (docs/RECORDINGS.md).
+#![tactic(auto)]
+
+mod compare;
+mod findings;
+pub mod player;
+pub mod program;
+mod recording;
+mod script;
+mod tally;

@@ -1,0 +1,383 @@
+//! Plays the calls of a script on an encoder.
+
+ghost use Rattle.std.specs.Prelude.{◌≡◌, ◌↔◌, ◌++◌, map, true, None, IsTrue, IfOk, IfErr, OnOk, string_bytes};
+ghost use Rattle.std.specs.List.{AllByRecursion};
+ghost use Rattle.trace_wire.specs.PoolEntries.{string_entries_of, stack_entries_of};
+ghost use Rattle.trace_writer.specs.Calls.{reply_from};
+ghost use Rattle.trace_recordings.specs.declared.player.PlayError.TheVariants as errors;
+ghost use Rattle.trace_recordings.specs.Playing.{IsOfScript, IsPlayed, Asks, DoesCall, Turns, asks, entry_of, pool_stack_of, pool_text_of, playing_of, refusal_text, reply_line, schema_under, start, with_reply, with_schema};
+ghost use Rattle.trace_recordings.specs.Refusals.{IsHad, IsOfPlayer, LeavesOut, Refuses, RefusesCall, RefusesUnder, misses};
+
+use crate::script::{Call, Definition, Fault, PoolStack, PoolText, ScriptError, script_of};
+use std::alloc::{AllocError, AllocFailed, Global};
+use std::collections::BTreeMap;
+use thiserror::Error;
+use trace_values::leb128::EncodeError;
+use trace_wire::codec::{PoolEntry, StackPoolEntry};
+use trace_wire::schema::{FieldAnnotation, SchemaEntry};
+use trace_writer::encoder::{Encoder, Reply, Schema};
+use trace_writer::laws::fresh_headline;
+
+/// What the calls of a script made.
+#[derive(Drop)]
+pub struct Played {
+    /// The output.
+    pub bytes: Vec<u8>,
+    /// A line for each call: the reply, and how many bytes the encoder had written behind it.
+    pub replies: String,
+}
+
+/// Why a script was not played to its end. Lines count from 1.
+#[derive(Debug, Drop, Error)]
+pub enum PlayError {
+    #[error("{0}")]
+    Script(ScriptError),
+    #[error("line {line}: the library has no call for `{call}` yet")]
+    LeftOut { line: usize, call: &'static str },
+    #[error("line {line}: no schema has the handle {handle}")]
+    Unknown { line: usize, handle: u64 },
+    #[error("no encoder: {0}")]
+    Encoder(EncodeError),
+    #[error("out of memory")]
+    Memory,
+}
+
+impl PlayError {
+    /// Whether the script is at fault, and not want of memory.
+    pub fn is_of_script(&self) -> bool
+        ensures { IsTrue result ↔ IsOfScript self.now }
+    {
+        match self {
+            PlayError::Script(error) => error.fault != Fault::Memory,
+            PlayError::LeftOut { .. } | PlayError::Unknown { .. } => true,
+            PlayError::Encoder(_) | PlayError::Memory => false,
+        }
+    }
+}
+
+impl From<ScriptError> for PlayError {
+    ghost from_gives = { λ error e. e ≡ errors.Script error };
+
+    fn from(error: ScriptError) -> PlayError {
+        PlayError::Script(error)
+    }
+}
+
+impl From<AllocError> for PlayError {
+    ghost from_gives = { λ _ e. e ≡ errors.Memory };
+
+    fn from(_: AllocError) -> PlayError {
+        PlayError::Memory
+    }
+}
+
+impl<T: Drop> From<AllocFailed<T>> for PlayError {
+    ghost from_gives = { λ _ e. e ≡ errors.Memory };
+
+    fn from(_: AllocFailed<T>) -> PlayError {
+        PlayError::Memory
+    }
+}
+
+/// Reads a script, and makes its calls in their order. A script with a call that the library has not is not begun.
+#[tactic(auto, using(crate::proofs::RefusalLemmas::not_begun, crate::proofs::RefusalLemmas::no_player))]
+pub fn play(alloc: Global, text: &[u8]) -> Result<Played, PlayError>
+    ensures played { IfOk result (λ played. IsPlayed text.now played.bytes.items (string_bytes played.replies)) }
+    ensures refused { IfErr result (Refuses text.now) }
+{
+    let script = script_of(alloc, text)?;
+    admit(&script)?;
+    // How a reader takes the output.
+    fresh_headline();
+    let mut player = Player::new(alloc)?;
+    for (before, call) in script.iter().enumerate() {
+        player.make(before.saturating_add(1), call)?;
+    }
+    Ok(player.into_played())
+}
+
+// Refuses a script with a call that the library has not, by the first of them.
+fn admit(script: &[Call]) -> Result<(), PlayError>
+    ensures admitted { OnOk result (AllByRecursion IsHad script.now) }
+    ensures refused { IfErr result (LeavesOut script.now) }
+{
+    for (before, call) in script.iter().enumerate() {
+        if is_missing(call) {
+            return Err(PlayError::LeftOut {
+                line: before.saturating_add(1),
+                call: call.name(),
+            });
+        }
+    }
+    Ok(())
+}
+
+// Whether the library has not the call.
+fn is_missing(call: &Call) -> bool
+    ensures { result ≡ misses call.now }
+{
+    matches!(
+        call,
+        Call::DefineType { .. } | Call::WriteTyped { .. } | Call::Reset | Call::Resume
+    )
+}
+
+// An encoder and what it made: the output holds what the encoder's writer accepted, and what a script put in past it.
+#[derive(Drop)]
+struct Player {
+    alloc: Global,
+    encoder: Encoder,
+    // The schemas by their handles.
+    schemas: BTreeMap<u64, Schema>,
+    played: Played,
+}
+
+impl Player {
+    fn new(alloc: Global) -> Result<Player, PlayError>
+        ensures started { IfOk result (λ player. playing_of player ≡ start) }
+        ensures refused { IfErr result IsOfPlayer }
+    {
+        let encoder = Encoder::new(alloc).map_err(PlayError::Encoder)?;
+        let bytes = Vec::from_slice(alloc, encoder.as_inner())?;
+        Ok(Player {
+            alloc,
+            encoder,
+            schemas: BTreeMap::new(alloc),
+            played: Played {
+                bytes,
+                replies: String::new(alloc),
+            },
+        })
+    }
+
+    // Makes the call of a line, and notes its reply.
+    fn make(&mut self, line: usize, call: &Call) -> Result<(), PlayError>
+        ensures turns { OnOk result (Turns (playing_of self.old) call.now (playing_of self.new)) }
+        ensures refused { IfErr result (RefusesCall (playing_of self.old) line call.now) }
+    {
+        match call {
+            Call::Nothing => Ok(()),
+            Call::Define { handle, definition } => {
+                self.define(*handle, definition)?;
+                self.note(None)
+            }
+            Call::Raw { bytes } => {
+                self.played.bytes.extend_from_slice(bytes)?;
+                self.note(None)
+            }
+            Call::Bare => {
+                self.played.bytes.clear();
+                self.note(None)
+            }
+            other => {
+                let reply = self.ask(line, other)?;
+                self.note(Some(reply))
+            }
+        }
+    }
+
+    // Appends the line of a reply to the others.
+    fn note(&mut self, reply: Option<Reply>) -> Result<(), PlayError>
+        ensures noted { OnOk result (playing_of self.new ≡ with_reply reply (playing_of self.old)) }
+        ensures refused { IfErr result IsOfPlayer }
+    {
+        let written = self.encoder.bytes_written();
+        push_reply(&mut self.played.replies, reply, written)?;
+        Ok(())
+    }
+
+    // Keeps the schema that a definition says, in the place of one with the same handle.
+    fn define(&mut self, handle: u64, definition: &Definition) -> Result<(), PlayError>
+        ensures defined { OnOk result (playing_of self.new ≡ with_schema handle definition.now (playing_of self.old)) }
+        ensures refused { IfErr result IsOfPlayer }
+    {
+        let schema = schema_of(self.alloc, definition)?;
+        self.schemas.insert(handle, schema)?;
+        Ok(())
+    }
+
+    // Makes a call of the encoder, and appends what it sent to the output.
+    fn ask(&mut self, line: usize, call: &Call) -> Result<Reply, PlayError>
+        requires { asks call.now ≡ true }
+        ensures asked { IfOk result (λ reply. Asks (playing_of self.old) call.now reply (playing_of self.new)) }
+        ensures refused { IfErr result (RefusesCall (playing_of self.old) line call.now) }
+    {
+        let before = self.encoder.as_inner().len();
+        let reply = reply_of(self.alloc, &mut self.encoder, &self.schemas, line, call)?;
+        let sent = &self.encoder.as_inner()[before..];
+        self.played.bytes.extend_from_slice(sent)?;
+        Ok(reply)
+    }
+
+    fn into_played(self) -> Played
+        ensures { result ≡ self.played }
+    {
+        let Player {
+            alloc: _,
+            encoder: _,
+            schemas: _,
+            played,
+        } = self;
+        played
+    }
+}
+
+// Makes the call of a line on an encoder.
+fn reply_of(
+    alloc: Global,
+    encoder: &mut Encoder,
+    schemas: &BTreeMap<u64, Schema>,
+    line: usize,
+    call: &Call,
+) -> Result<Reply, PlayError>
+    requires { asks call.now ≡ true }
+    ensures does { IfOk result (DoesCall schemas.now.entries encoder.old encoder.new call.now) }
+    ensures refused { IfErr result (RefusesUnder schemas.now.entries line call.now) }
+{
+    match call {
+        Call::Register { handle } => {
+            let schema = schema_at(schemas, line, *handle)?;
+            Ok(match encoder.register_existing(schema) {
+                Ok(id) => Reply::WireId(id),
+                Err(error) => Reply::Refused(error),
+            })
+        }
+        Call::Event {
+            handle,
+            time,
+            values,
+        } => {
+            let schema = schema_at(schemas, line, *handle)?;
+            Ok(done(encoder.write_event(schema, *time, values)))
+        }
+        Call::InternString { text } => Ok(match encoder.intern_string(text) {
+            Ok(id) => Reply::Text(id),
+            Err(error) => Reply::Refused(error),
+        }),
+        Call::InternStack { frames } => Ok(match encoder.intern_stack_frames(frames) {
+            Ok(id) => Reply::Stack(id),
+            Err(error) => Reply::Refused(error),
+        }),
+        Call::StringPool { entries } => {
+            let entries = pool_of(alloc, entries)?;
+            Ok(done(encoder.write_string_pool(&entries)))
+        }
+        Call::StackPool { entries } => {
+            let entries = stack_pool_of(alloc, entries)?;
+            Ok(done(encoder.write_stack_pool(&entries)))
+        }
+        other => Err(PlayError::LeftOut {
+            line,
+            call: other.name(),
+        }),
+    }
+}
+
+// The reply of a call that answers nothing else.
+fn done(answer: Result<(), EncodeError>) -> Reply
+    ensures { result ≡ reply_from (λ _. Reply.Done) answer }
+{
+    match answer {
+        Ok(()) => Reply::Done,
+        Err(error) => Reply::Refused(error),
+    }
+}
+
+// The schema that a definition says.
+fn schema_of(alloc: Global, definition: &Definition) -> Result<Schema, AllocError>
+    ensures { IfOk result (λ schema. schema ≡ entry_of definition.now) }
+{
+    let mut annotations = Vec::new(alloc);
+    for annotation in &definition.annotations {
+        annotations.push(FieldAnnotation::new(
+            alloc,
+            annotation.index,
+            &annotation.key,
+            &annotation.value,
+        )?)?;
+    }
+    let name = definition.name.as_str();
+    let entry = SchemaEntry::with_annotations(alloc, name, &definition.fields, &annotations)?;
+    Schema::from_entry(alloc, entry)
+}
+
+// The entries of a string pool.
+fn pool_of(alloc: Global, texts: &[PoolText]) -> Result<Vec<PoolEntry>, AllocError>
+    ensures { IfOk result (λ entries. string_entries_of entries.items ≡ map pool_text_of texts.now) }
+{
+    let mut entries = Vec::new(alloc);
+    for text in texts {
+        entries.push(PoolEntry {
+            pool_id: text.id,
+            bytes: Vec::from_slice(alloc, &text.bytes)?,
+        })?;
+    }
+    Ok(entries)
+}
+
+// The entries of a stack pool.
+fn stack_pool_of(alloc: Global, stacks: &[PoolStack]) -> Result<Vec<StackPoolEntry>, AllocError>
+    ensures { IfOk result (λ entries. stack_entries_of entries.items ≡ map pool_stack_of stacks.now) }
+{
+    let mut entries = Vec::new(alloc);
+    for stack in stacks {
+        entries.push(StackPoolEntry {
+            pool_id: stack.id,
+            frames: Vec::from_slice(alloc, &stack.frames)?,
+        })?;
+    }
+    Ok(entries)
+}
+
+// The schema that was defined last under a handle.
+fn schema_at(
+    schemas: &BTreeMap<u64, Schema>,
+    line: usize,
+    handle: u64,
+) -> Result<&Schema, PlayError>
+    ensures found { IfOk result (λ schema. schema_under schemas.now.entries handle ≡ Some schema.now) }
+    ensures unknown { IfErr result (λ e. (e ≡ errors.Unknown line handle) × (schema_under schemas.now.entries handle ≡ None)) }
+{
+    match schemas.get(&handle) {
+        Some(schema) => Ok(schema),
+        None => Err(PlayError::Unknown { line, handle }),
+    }
+}
+
+// Appends the line of a reply, `-` where the encoder was not called.
+#[tactic(auto, unfolding(crate::specs::Playing::reply_line))]
+fn push_reply(out: &mut String, reply: Option<Reply>, written: u64) -> Result<(), AllocError>
+    ensures { OnOk result (string_bytes out.new ≡ string_bytes out.old ++ reply_line reply written) }
+{
+    match reply {
+        None => out.push_str("-")?,
+        Some(Reply::Done) => out.push_str("done")?,
+        Some(Reply::WireId(id)) => {
+            let id = id.0;
+            write!(out, "wire {id}")?;
+        }
+        Some(Reply::Text(id)) => write!(out, "{id:?}")?,
+        Some(Reply::Stack(id)) => write!(out, "{id:?}")?,
+        Some(Reply::Refused(error)) => push_refusal(out, error)?,
+    }
+    writeln!(out, " bytes={written}")
+}
+
+// Appends a refusal: its number and name, and the field of a misfit.
+fn push_refusal(out: &mut String, error: EncodeError) -> Result<(), AllocError>
+    ensures { OnOk result (string_bytes out.new ≡ string_bytes out.old ++ refusal_text error) }
+{
+    match error {
+        EncodeError::Conflict => out.push_str("refused 1 Conflict"),
+        EncodeError::ValueCount => out.push_str("refused 2 ValueCount"),
+        EncodeError::Misfit { field } => write!(out, "refused 3 Misfit {field}"),
+        EncodeError::TooLong => out.push_str("refused 4 TooLong"),
+        EncodeError::IdsUsedUp => out.push_str("refused 5 IdsUsedUp"),
+        EncodeError::SlotTaken => out.push_str("refused 6 SlotTaken"),
+        EncodeError::SlotUntimed => out.push_str("refused 7 SlotUntimed"),
+        EncodeError::ByteCount => out.push_str("refused 8 ByteCount"),
+        EncodeError::OutOfMemory => out.push_str("refused 9 OutOfMemory"),
+        EncodeError::Writer(_) => out.push_str("refused 10 Writer"),
+        EncodeError::Failed => out.push_str("refused 11 Failed"),
+    }
+}

@@ -1,0 +1,104 @@
+//! Scripts of encoder calls (docs/RECORDINGS.md, "Scripts").
+
+ghost use Rattle.std.specs.Prelude.{◌≡◌, ◌≢◌, ◌<◌, length, IfErr, IfOk, IfSome, OnOk};
+ghost use Rattle.std.specs.Option.{option_copied};
+ghost use Rattle.trace_recordings.specs.Scripts.{IsScript, IsBrokenAt, IsFirstLine, GainsCall, EndsWithReturn};
+ghost use Rattle.trace_recordings.specs.Tallies.{counted_on};
+ghost use Rattle.trace_recordings.specs.declared.script.fault.Fault.TheVariants.{CarriageReturn, Memory};
+
+mod call;
+mod definitions;
+mod fault;
+mod line;
+mod loose;
+mod parts;
+mod pools;
+
+pub use call::Call;
+pub use definitions::Definition;
+pub use fault::Fault;
+use line::call_of;
+pub use pools::{PoolStack, PoolText};
+use std::alloc::Global;
+use thiserror::Error;
+
+/// Which line of a script cannot be read, and why. Lines count from 1.
+#[derive(Clone, Copy, Debug, PartialEq, Eq, Error)]
+#[error("line {line}: {fault}")]
+pub struct ScriptError {
+    pub line: usize,
+    pub fault: Fault,
+}
+
+/// Reads a script: what each line asks for, in their order. A line ends with a line feed, which the last one may lack.
+#[tactic(auto, using(crate::proofs::ScriptLemmas::one_more, crate::proofs::ScriptLemmas::the_last))]
+pub fn script_of(alloc: Global, text: &[u8]) -> Result<Vec<Call>, ScriptError>
+    ensures read { IfOk result (λ calls. IsScript calls.items text.now) }
+    ensures broken { IfErr result (λ error. IsBrokenAt text.now error.line) }
+{
+    let mut calls = Vec::new(alloc);
+    let mut rest = text;
+    loop {
+        let (line, after) = first_line(rest);
+        push_call(alloc, &mut calls, line)?;
+        match after {
+            Some(lines) => rest = lines,
+            None => return Ok(calls),
+        }
+    }
+}
+
+// The first line, and what stands behind its line feed.
+#[tactic(auto, using(crate::proofs::ScriptLemmas::feed_at, crate::proofs::ScriptLemmas::no_feed))]
+fn first_line(text: &[u8]) -> (&[u8], Option<&[u8]>)
+    ensures line { IsFirstLine text.now result.0.now (option_copied result.1) }
+    ensures shorter { IfSome result.1 (λ rest. length rest.now < length text.now) }
+{
+    for (at, byte) in text.iter().enumerate() {
+        if *byte == b'\n' {
+            return (&text[..at], Some(&text[at + 1..]));
+        }
+    }
+    (text, None)
+}
+
+// Appends what a line asks for.
+fn push_call(alloc: Global, calls: &mut Vec<Call>, line: &[u8]) -> Result<(), ScriptError>
+    ensures gains { OnOk result (GainsCall calls.old.items calls.new.items line.now) }
+    ensures counts { IfErr result (λ error. error.line ≡ counted_on (length calls.old.items) 1) }
+{
+    let before = calls.len();
+    match call_of(alloc, line) {
+        Ok(call) => match calls.push(call) {
+            Ok(()) => Ok(()),
+            Err(_) => Err(fault_at(before, Fault::Memory)),
+        },
+        Err(fault) => Err(fault_at(before, named(line, fault))),
+    }
+}
+
+// A fault in the line after this many.
+fn fault_at(before: usize, fault: Fault) -> ScriptError
+    ensures line { result.line ≡ counted_on before 1 }
+    ensures fault { result.fault ≡ fault }
+{
+    ScriptError {
+        line: before.saturating_add(1),
+        fault,
+    }
+}
+
+// By what name to tell the fault of a line: a carriage return at its end is told before all but want of memory.
+fn named(line: &[u8], fault: Fault) -> Fault
+    ensures memory { fault ≡ Memory → result ≡ Memory }
+    ensures returned { fault ≢ Memory → EndsWithReturn line.now → result ≡ CarriageReturn }
+    ensures other { (EndsWithReturn line.now → ⊥) → result ≡ fault }
+{
+    if fault == Fault::Memory {
+        return fault;
+    }
+    match line.last() {
+        Some(b'\r') => Fault::CarriageReturn,
+        _ => fault,
+    }
+}

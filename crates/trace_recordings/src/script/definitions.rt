@@ -1,0 +1,99 @@
+//! What a script says of schemas and of types of events.
+
+ghost use Rattle.std.specs.Prelude.{◌≡◌, ◌<◌, ◌++◌, length, IfOk};
+ghost use Rattle.std.specs.List.{flat_map};
+ghost use Rattle.trace_lines.specs.Lines.{field_text};
+ghost use Rattle.trace_recordings.specs.Definitions.{annotation_text, definition_text};
+
+use crate::script::fault::Fault;
+use crate::script::parts::{behind, name_at, number_at, type_at};
+use std::alloc::Global;
+use trace_wire::schema::FieldDef;
+
+/// A name, the fields in the order in which events hold them, and annotations of the fields.
+#[derive(Drop)]
+pub struct Definition {
+    pub name: String,
+    pub fields: Vec<FieldDef>,
+    pub annotations: Vec<Annotation>,
+}
+
+/// A key and a value for the field with an index.
+#[derive(Drop)]
+pub struct Annotation {
+    pub index: u16,
+    pub key: String,
+    pub value: String,
+}
+
+/// The definition that a whole line says: its name, its fields, and its annotations.
+#[tactic(auto, unfolding(crate::specs::Definitions::definition_text))]
+pub fn definition_of(alloc: Global, line: &[u8]) -> Result<Definition, Fault>
+    ensures { IfOk result (λ definition. line.now ≡ definition_text definition) }
+{
+    let (name, rest) = name_at(alloc, line)?;
+    let (fields, rest) = fields_at(alloc, rest)?;
+    let annotations = annotations_of(alloc, rest)?;
+    Ok(Definition {
+        name,
+        fields,
+        annotations,
+    })
+}
+
+// The fields, and the rest.
+fn fields_at(alloc: Global, line: &[u8]) -> Result<(Vec<FieldDef>, &[u8]), Fault>
+    ensures { IfOk result (λ x. line.now ≡ flat_map field_text x.0.items ++ x.1.now) }
+{
+    let mut fields = Vec::new(alloc);
+    let mut rest = line;
+    while let [b' ', b'"', ..] = rest {
+        let (field, after) = field_at(alloc, rest)?;
+        fields.push(field)?;
+        rest = after;
+    }
+    Ok((fields, rest))
+}
+
+// A space, a name, a colon and a type, and the rest.
+#[tactic(auto, unfolding(trace_lines::specs::Lines::field_text))]
+fn field_at(alloc: Global, line: &[u8]) -> Result<(FieldDef, &[u8]), Fault>
+    ensures text { IfOk result (λ x. line.now ≡ field_text x.0 ++ x.1.now) }
+    ensures shorter { IfOk result (λ x. length x.1.now < length line.now) }
+{
+    let rest = behind(line, b" ").ok_or(Fault::Mark(' '))?;
+    let (name, rest) = name_at(alloc, rest)?;
+    let rest = behind(rest, b":").ok_or(Fault::Mark(':'))?;
+    let (field_type, rest) = type_at(rest)?;
+    Ok((FieldDef::new(alloc, name.as_str(), field_type)?, rest))
+}
+
+// Annotations up to the end of the line.
+fn annotations_of(alloc: Global, line: &[u8]) -> Result<Vec<Annotation>, Fault>
+    ensures { IfOk result (λ v. line.now ≡ flat_map annotation_text v.items) }
+{
+    let mut annotations = Vec::new(alloc);
+    let mut rest = line;
+    while !rest.is_empty() {
+        let (annotation, after) = annotation_at(alloc, rest)?;
+        annotations.push(annotation)?;
+        rest = after;
+    }
+    Ok(annotations)
+}
+
+// A space, `@`, the index of a field, a colon, a key, an equals sign and a value, and the rest.
+#[tactic(auto, unfolding(crate::specs::Definitions::annotation_text))]
+fn annotation_at(alloc: Global, line: &[u8]) -> Result<(Annotation, &[u8]), Fault>
+    ensures text { IfOk result (λ x. line.now ≡ annotation_text x.0 ++ x.1.now) }
+    ensures shorter { IfOk result (λ x. length x.1.now < length line.now) }
+{
+    let rest = behind(line, b" @").ok_or(Fault::Mark('@'))?;
+    let (index, rest) = number_at(alloc, rest)?;
+    let index = u16::try_from(index).map_err(|_| Fault::TooLarge)?;
+    let rest = behind(rest, b":").ok_or(Fault::Mark(':'))?;
+    let (key, rest) = name_at(alloc, rest)?;
+    let rest = behind(rest, b"=").ok_or(Fault::Mark('='))?;
+    let (value, rest) = name_at(alloc, rest)?;
+    Ok((Annotation { index, key, value }, rest))
+}

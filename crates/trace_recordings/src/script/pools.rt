@@ -1,0 +1,86 @@
+//! What a script says of pools.
+
+ghost use Rattle.std.specs.Prelude.{◌≡◌, ◌<◌, ◌++◌, length, IfOk};
+ghost use Rattle.std.specs.List.{flat_map};
+ghost use Rattle.trace_recordings.specs.Pools.{id_text, pool_text_text, pool_stack_text};
+
+use crate::script::fault::Fault;
+use crate::script::parts::{addresses_at, behind, number_at, text_at};
+use std::alloc::Global;
+
+/// An entry of a string pool.
+#[derive(Drop)]
+pub struct PoolText {
+    pub id: u32,
+    pub bytes: Vec<u8>,
+}
+
+/// An entry of a stack pool.
+#[derive(Drop)]
+pub struct PoolStack {
+    pub id: u32,
+    pub frames: Vec<u64>,
+}
+
+/// Entries of a string pool up to the end of the line.
+pub fn pool_texts(alloc: Global, line: &[u8]) -> Result<Vec<PoolText>, Fault>
+    ensures { IfOk result (λ v. line.now ≡ flat_map pool_text_text v.items) }
+{
+    let mut entries = Vec::new(alloc);
+    let mut rest = line;
+    while !rest.is_empty() {
+        let (entry, after) = pool_text_at(alloc, rest)?;
+        entries.push(entry)?;
+        rest = after;
+    }
+    Ok(entries)
+}
+
+/// Entries of a stack pool up to the end of the line.
+pub fn pool_stacks(alloc: Global, line: &[u8]) -> Result<Vec<PoolStack>, Fault>
+    ensures { IfOk result (λ v. line.now ≡ flat_map pool_stack_text v.items) }
+{
+    let mut entries = Vec::new(alloc);
+    let mut rest = line;
+    while !rest.is_empty() {
+        let (entry, after) = pool_stack_at(alloc, rest)?;
+        entries.push(entry)?;
+        rest = after;
+    }
+    Ok(entries)
+}
+
+// An entry of a string pool, and the rest.
+#[tactic(auto, unfolding(crate::specs::Pools::pool_text_text))]
+fn pool_text_at(alloc: Global, line: &[u8]) -> Result<(PoolText, &[u8]), Fault>
+    ensures text { IfOk result (λ x. line.now ≡ pool_text_text x.0 ++ x.1.now) }
+    ensures shorter { IfOk result (λ x. length x.1.now < length line.now) }
+{
+    let (id, rest) = id_at(alloc, line)?;
+    let (bytes, rest) = text_at(alloc, rest)?;
+    Ok((PoolText { id, bytes }, rest))
+}
+
+// An entry of a stack pool, and the rest.
+#[tactic(auto, unfolding(crate::specs::Pools::pool_stack_text))]
+fn pool_stack_at(alloc: Global, line: &[u8]) -> Result<(PoolStack, &[u8]), Fault>
+    ensures text { IfOk result (λ x. line.now ≡ pool_stack_text x.0 ++ x.1.now) }
+    ensures shorter { IfOk result (λ x. length x.1.now < length line.now) }
+{
+    let (id, rest) = id_at(alloc, line)?;
+    let (frames, rest) = addresses_at(alloc, rest)?;
+    Ok((PoolStack { id, frames }, rest))
+}
+
+// A space, an id and a colon, and the rest.
+#[tactic(auto, unfolding(crate::specs::Pools::id_text))]
+fn id_at(alloc: Global, line: &[u8]) -> Result<(u32, &[u8]), Fault>
+    ensures text { IfOk result (λ x. line.now ≡ id_text x.0 ++ x.1.now) }
+    ensures shorter { IfOk result (λ x. length x.1.now < length line.now) }
+{
+    let rest = behind(line, b" ").ok_or(Fault::Mark(' '))?;
+    let (id, rest) = number_at(alloc, rest)?;
+    let id = u32::try_from(id).map_err(|_| Fault::TooLarge)?;
+    let rest = behind(rest, b":").ok_or(Fault::Mark(':'))?;
+    Ok((id, rest))
+}

@@ -1,3 +1,0 @@
-pub mod PlayingLemmas
-pub mod ScriptLemmas
-pub mod TallyLemmas

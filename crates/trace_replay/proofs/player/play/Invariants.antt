@@ -1,6 +1,0 @@
-use Rattle.std.proofs.Common.{take}
-use Rattle.trace_replay.specs.Playing.{TurnsEach, playing_of, start}
-use Rattle.trace_replay.proofs.player.play.Given as goal
-
-abbrev pub invariant-loop-before : goal.invariant-loop-before
-invariant-loop-before l = TurnsEach start (take l.before l.call-items) (playing_of l.player)

@@ -1,7 +1,0 @@
-use Rattle.std.proofs.Common.{◌≡◌, map, take}
-use Rattle.trace_wire.specs.PoolEntries.{string_entries_of}
-use Rattle.trace_replay.specs.Playing.{pool_text_of}
-use Rattle.trace_replay.proofs.player.pool_of.Given as goal
-
-abbrev pub invariant-loop-text : goal.invariant-loop-text
-invariant-loop-text l = string_entries_of l.entries.items ≡ map pool_text_of (take l.text-index l.texts)

@@ -1,6 +1,0 @@
-use Rattle.std.proofs.Common.{◌≡◌, map, take}
-use Rattle.trace_replay.specs.Playing.{annotation_of}
-use Rattle.trace_replay.proofs.player.schema_of.Given as goal
-
-abbrev pub invariant-loop-annotation : goal.invariant-loop-annotation
-invariant-loop-annotation l = l.annotations.items ≡ map annotation_of (take l.annotation-index l.annotation-items)
