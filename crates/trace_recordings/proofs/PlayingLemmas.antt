@@ -3,7 +3,7 @@ use Rattle.std.proofs.Common.{◌≡◌, ℕ, List, [], ◌∷◌, ◌++◌, Som
 use Rattle.std.specs.List.{AllByRecursion}
 use Rattle.trace_writer.specs.declared.encoder.call.Reply.{Reply}
 use Rattle.trace_writer.specs.State.{WriterState}
-use Rattle.trace_writer.specs.Calls.{Action, fresh, header}
+use Rattle.trace_writer.specs.Calls.{Action, fresh_state, header}
 use Rattle.trace_writer.specs.Runs.{Plays}
 use Rattle.trace_writer.specs.Headline.{FreshHeadline}
 use Rattle.trace_recordings.specs.declared.script.call.Call.{Call}
@@ -37,7 +37,7 @@ asked_turn (Ok u) p call reply mid q asks noted = turns_asked p call q (reply, m
 asked_turn (Err e) p call reply mid q asks noted = tt
 
 -- nothing was done yet
-pub started : (state : WriterState) (defined : Schemas) (bytes replies : List ℕ) → state ≡ fresh → defined ≡ [] → bytes ≡ header → replies ≡ [] → record { state = state; defined = defined; bytes = bytes; replies = replies } ≡ start
+pub started : (state : WriterState) (defined : Schemas) (bytes replies : List ℕ) → state ≡ fresh_state → defined ≡ [] → bytes ≡ header → replies ≡ [] → record { state = state; defined = defined; bytes = bytes; replies = replies } ≡ start
 started state defined bytes replies s d b r = rw (s, d, b, r)
 
 -- one more call
