@@ -1,5 +1,6 @@
 //! Worked examples of the format.
 
+mod ample;
 mod annotations;
 mod calls;
 mod checks;
@@ -16,6 +17,7 @@ mod pools;
 mod reading;
 mod registry;
 mod sending;
+mod tags;
 mod texts;
 mod told;
 mod traces;

@@ -90,6 +90,45 @@ fn equal_schema_keeps_the_annotation(rt: HostRuntime) -> Result<(), Fail> {
     check_unit_of(&rt, decoder.registry())
 }
 
+/// The frame, where it is a schema, is `Ev` without annotations; whether it is one.
+fn is_bare_schema(rt: &impl Abort, frame: &DecodedFrame) -> bool {
+    match frame {
+        DecodedFrame::Schema(entry) => {
+            assert_eq!(rt; entry.name(), "Ev");
+            assert_eq!(rt; entry.annotations().len(), 0);
+            true
+        }
+        _ => false,
+    }
+}
+
+#[test]
+fn schemas_are_given_without_annotations(rt: HostRuntime) -> Result<(), Fail> {
+    let bytes = joined(rt.alloc(), &ANNOTATED, &EV_SCHEMA)?;
+    let mut decoder = decoder_of(rt.alloc(), &bytes)?;
+    let mut schemas: [bool; 3] = [false; 3];
+    for place in 0..3usize {
+        schemas[place] = is_bare_schema(&rt, &next_one(&mut decoder)?);
+    }
+    assert_eq!(rt; schemas, [true, false, true]);
+    check_unit_of(&rt, decoder.registry())
+}
+
+#[test]
+fn schemas_are_given_at_once_without_annotations(rt: HostRuntime) -> Result<(), Fail> {
+    let bytes = joined(rt.alloc(), &ANNOTATED, &EV_SCHEMA)?;
+    let mut decoder = decoder_of(rt.alloc(), &bytes)?;
+    let frames = all(&mut decoder)?;
+    let mut schemas: u32 = 0;
+    for frame in &frames {
+        if is_bare_schema(&rt, frame) {
+            schemas = schemas.saturating_add(1);
+        }
+    }
+    assert_eq!(rt; schemas, 2);
+    check_unit_of(&rt, decoder.registry())
+}
+
 #[test]
 fn lines_of_an_annotated_schema(rt: HostRuntime) -> Result<(), Fail> {
     let bytes = joined(rt.alloc(), &ANNOTATED, &EV_SCHEMA)?;

@@ -5,6 +5,7 @@ use crate::tests::checks::{check_all, check_end, check_ev, check_event};
 use crate::tests::traces::{EV_SCHEMA, HEADER, ONE_EVENT, OTHER_EV, joined, written};
 use dial9_trace_format::codec::WireTypeId;
 use dial9_trace_format::decoder::{DecodeErrorKind, Decoder};
+use std::alloc::{AllocError, Global};
 use std::process::Abort;
 use std::test::Fail;
 
@@ -165,5 +166,28 @@ fn events_without_times(rt: HostRuntime) -> Result<(), Fail> {
     let frames = all_of(rt.alloc(), &bytes)?;
     assert_eq!(rt; frames.len(), 2);
     check_event(&rt, &frames[1], 0, 42);
+    Ok(())
+}
+
+/// A header and the schema `Ev` of wire id 65,535, so many times.
+fn streams_of_the_greatest_id(alloc: Global, count: usize) -> Result<Vec<u8>, AllocError> {
+    let mut bytes = Vec::new(alloc);
+    for _ in 0..count {
+        bytes.extend_from_slice(&HEADER)?;
+        bytes.extend_from_slice(&[
+            0x01, 0xFF, 0xFF, 0x02, 0x00, 0x45, 0x76, 0x01, 0x01, 0x00, 0x01, 0x00, 0x76, 0x09,
+        ])?;
+    }
+    Ok(bytes)
+}
+
+#[test]
+fn many_streams_of_the_greatest_id(rt: HostRuntime) -> Result<(), Fail> {
+    let bytes = streams_of_the_greatest_id(rt.alloc(), 2_000)?;
+    assert_eq!(rt; bytes.len(), 38_000);
+    check_all(&rt, rt.alloc(), &bytes, 2_000, 38_000)?;
+    for frame in all_of(rt.alloc(), &bytes)? {
+        check_ev(&rt, &frame);
+    }
     Ok(())
 }

@@ -1,0 +1,245 @@
+//! Events: of values of each size, of each count of fields, and many of them.
+
+use crate::tests::ample::schemas::fields;
+use crate::tests::ample::traces::{check_trace, check_whole_dump};
+use crate::tests::ample::{COUNTS, MILLION, SIZED, SIZES, spelled_length, text, value};
+use crate::tests::calls::{put_event, register, register_new, run};
+use crate::tests::traces::{ev, one_field};
+use dial9_trace_format::encoder::{Call, Encoder, Reply, Schema};
+use dial9_trace_format::leb128::EncodeError;
+use dial9_trace_format::types::{FieldType, FieldValue};
+use std::alloc::{AllocError, Global};
+use std::process::Abort;
+use std::test::Fail;
+
+/// What an encoder writes for an event at 0 of these values, of a field of this type.
+fn event(
+    alloc: Global,
+    field_type: FieldType,
+    values: &[FieldValue],
+) -> Result<Vec<u8>, EncodeError> {
+    let schema = one_field(alloc, "K", "f", field_type)?;
+    let mut encoder = Encoder::new(alloc)?;
+    put_event(&mut encoder, &schema, 0, values)?;
+    Ok(encoder.finish())
+}
+
+/// An event of a value of this size is written and read.
+fn check_sized(
+    rt: &impl Abort,
+    alloc: Global,
+    field_type: FieldType,
+    size: usize,
+) -> Result<(), Fail> {
+    let values = [value(alloc, field_type, size)?];
+    let bytes = event(alloc, field_type, &values)?;
+    assert_eq!(rt;
+        bytes.len() as u64,
+        spelled_length(field_type, size).saturating_add(24)
+    );
+    check_trace(rt, alloc, &bytes, 2)
+}
+
+/// The event of a value of this size is dumped.
+fn check_dumped(
+    rt: &impl Abort,
+    alloc: Global,
+    field_type: FieldType,
+    size: usize,
+) -> Result<(), Fail> {
+    let values = [value(alloc, field_type, size)?];
+    let bytes = event(alloc, field_type, &values)?;
+    check_whole_dump(rt, alloc, &bytes);
+    Ok(())
+}
+
+#[test]
+fn events_of_each_size(rt: HostRuntime) -> Result<(), Fail> {
+    for field_type in SIZED {
+        for size in SIZES {
+            check_sized(&rt, rt.alloc(), field_type, size)?;
+        }
+    }
+    Ok(())
+}
+
+#[test]
+fn dumps_of_each_size(rt: HostRuntime) -> Result<(), Fail> {
+    for field_type in SIZED {
+        for size in SIZES {
+            check_dumped(&rt, rt.alloc(), field_type, size)?;
+        }
+    }
+    Ok(())
+}
+
+#[test]
+fn events_of_a_million_bytes(rt: HostRuntime) -> Result<(), Fail> {
+    check_sized(&rt, rt.alloc(), FieldType::String, MILLION)?;
+    check_sized(&rt, rt.alloc(), FieldType::Bytes, MILLION)?;
+    check_dumped(&rt, rt.alloc(), FieldType::Bytes, MILLION)
+}
+
+#[test]
+fn events_of_a_million_addresses(rt: HostRuntime) -> Result<(), Fail> {
+    check_sized(&rt, rt.alloc(), FieldType::StackFrames, MILLION)
+}
+
+#[test]
+fn events_of_a_million_pairs_of_texts(rt: HostRuntime) -> Result<(), Fail> {
+    check_sized(&rt, rt.alloc(), FieldType::StringMap, MILLION)
+}
+
+#[test]
+fn events_of_a_million_items(rt: HostRuntime) -> Result<(), Fail> {
+    check_sized(&rt, rt.alloc(), FieldType::DynamicList, MILLION)
+}
+
+#[test]
+fn events_of_a_million_pairs(rt: HostRuntime) -> Result<(), Fail> {
+    check_sized(&rt, rt.alloc(), FieldType::DynamicMap, MILLION)
+}
+
+#[test]
+fn events_of_absent_values(rt: HostRuntime) -> Result<(), Fail> {
+    for tag in 0x81..=0x8Fu8 {
+        let field_type = FieldType::from_tag(tag).ok_or("no type")?;
+        let bytes = event(rt.alloc(), field_type, &[FieldValue::None])?;
+        assert_eq!(rt; bytes.len(), 25);
+        check_trace(&rt, rt.alloc(), &bytes, 2)?;
+        check_whole_dump(&rt, rt.alloc(), &bytes);
+    }
+    Ok(())
+}
+
+/// So many absent values.
+fn absent(alloc: Global, count: usize) -> Result<Vec<FieldValue>, AllocError> {
+    let mut values = Vec::new(alloc);
+    for _ in 0..count {
+        values.push(FieldValue::None)?;
+    }
+    Ok(values)
+}
+
+/// What an encoder writes for an event of so many fields.
+fn event_of_fields(alloc: Global, count: usize) -> Result<Vec<u8>, EncodeError> {
+    let mut encoder = Encoder::new(alloc)?;
+    let fields = fields(alloc, count, FieldType::OptionalU8)?;
+    let schema = register_new(&mut encoder, "F", fields)?;
+    put_event(&mut encoder, &schema, 0, &absent(alloc, count)?)?;
+    Ok(encoder.finish())
+}
+
+/// An event of so many fields is written, read and dumped.
+fn check_fields(rt: &impl Abort, alloc: Global, count: usize) -> Result<(), Fail> {
+    let bytes = event_of_fields(alloc, count)?;
+    let length = (count as u64).saturating_mul(4).saturating_add(20);
+    assert_eq!(rt; bytes.len() as u64, length);
+    check_trace(rt, alloc, &bytes, 2)?;
+    check_whole_dump(rt, alloc, &bytes);
+    Ok(())
+}
+
+#[test]
+fn events_of_each_count_of_fields(rt: HostRuntime) -> Result<(), Fail> {
+    for count in COUNTS {
+        check_fields(&rt, rt.alloc(), count)?;
+    }
+    check_fields(&rt, rt.alloc(), 65_535)
+}
+
+/// What an encoder writes for so many events, each of a schema that is made anew.
+fn many_events(alloc: Global, count: usize) -> Result<Vec<u8>, EncodeError> {
+    let mut encoder = Encoder::new(alloc)?;
+    for _ in 0..count {
+        put_event(&mut encoder, &ev(alloc)?, 0, &[FieldValue::Varint(0)])?;
+    }
+    Ok(encoder.finish())
+}
+
+#[test]
+fn many_events_of_one_schema(rt: HostRuntime) -> Result<(), Fail> {
+    for count in COUNTS {
+        let bytes = many_events(rt.alloc(), count)?;
+        let frames = if count == 0 {
+            0
+        } else {
+            count.saturating_add(1)
+        };
+        check_trace(&rt, rt.alloc(), &bytes, frames)?;
+        check_whole_dump(&rt, rt.alloc(), &bytes);
+    }
+    Ok(())
+}
+
+/// A schema without fields, named by this number.
+fn numbered(alloc: Global, number: usize) -> Result<Schema, AllocError> {
+    let name = format!(in alloc; "{number}")?;
+    Schema::new(alloc, name.as_str(), Vec::new(alloc))
+}
+
+/// What an encoder writes for so many schemas.
+fn many_schemas(alloc: Global, count: usize) -> Result<Vec<u8>, EncodeError> {
+    let mut encoder = Encoder::new(alloc)?;
+    for number in 0..count {
+        let schema = numbered(alloc, number)?;
+        register(&mut encoder, &schema)?;
+        register(&mut encoder, &schema.clone()?)?;
+    }
+    Ok(encoder.finish())
+}
+
+#[test]
+fn many_schemas_of_one_encoder(rt: HostRuntime) -> Result<(), Fail> {
+    for count in COUNTS {
+        let bytes = many_schemas(rt.alloc(), count)?;
+        check_trace(&rt, rt.alloc(), &bytes, count)?;
+        check_whole_dump(&rt, rt.alloc(), &bytes);
+    }
+    Ok(())
+}
+
+#[test]
+fn schema_names_of_each_size(rt: HostRuntime) -> Result<(), Fail> {
+    for size in [0, 1, 255, 256, 4_097, 65_535usize] {
+        let name = text(rt.alloc(), size)?;
+        let mut encoder = Encoder::new(rt.alloc())?;
+        register_new(&mut encoder, name.as_str(), Vec::new(rt.alloc()))?;
+        let bytes = encoder.finish();
+        assert_eq!(rt; bytes.len(), size.saturating_add(13));
+        check_trace(&rt, rt.alloc(), &bytes, 1)?;
+    }
+    Ok(())
+}
+
+/// So many calls that intern the empty text.
+fn empty_texts(alloc: Global, count: usize) -> Result<Vec<Call>, AllocError> {
+    let mut calls = Vec::new(alloc);
+    for _ in 0..count {
+        calls.push(Call::InternString(String::new(alloc)))?;
+    }
+    Ok(calls)
+}
+
+/// Whether the call was refused.
+fn is_refused(reply: &Reply) -> bool {
+    match reply {
+        Reply::Refused(_) => true,
+        _ => false,
+    }
+}
+
+#[test]
+fn lists_of_calls_of_each_count(rt: HostRuntime) -> Result<(), Fail> {
+    for count in SIZES {
+        let calls = empty_texts(rt.alloc(), count)?;
+        let mut encoder = Encoder::new(rt.alloc())?;
+        let replies = run(rt.alloc(), &mut encoder, &calls)?;
+        assert_eq!(rt; replies.len(), count);
+        assert_eq!(rt;
+            replies.iter().filter(|reply| is_refused(*reply)).count(),
+            0
+        );
+    }
+    Ok(())
+}

@@ -1,0 +1,40 @@
+//! Reading what was written, at once and frame by frame, copying it, and its dump.
+
+use crate::tests::calls::{all, decoder_of, next};
+use dial9_trace_format::decoder::DecodedFrame;
+use std::alloc::Global;
+use std::process::Abort;
+use std::test::Fail;
+use trace_lines::dump::{WHOLE, dump};
+
+/// Frame by frame the trace is read as these.
+fn check_one_by_one(
+    rt: &impl Abort,
+    alloc: Global,
+    bytes: &[u8],
+    frames: &[DecodedFrame],
+) -> Result<(), Fail> {
+    let mut decoder = decoder_of(alloc, bytes)?;
+    for frame in frames {
+        assert!(rt; next(&mut decoder)? == Some(frame.clone(alloc)?));
+    }
+    assert!(rt; next(&mut decoder)?.is_none());
+    assert_eq!(rt; decoder.position(), bytes.len());
+    Ok(())
+}
+
+/// The trace is read whole as so many frames.
+pub fn check_trace(rt: &impl Abort, alloc: Global, bytes: &[u8], count: usize) -> Result<(), Fail> {
+    let mut decoder = decoder_of(alloc, bytes)?;
+    let frames = all(&mut decoder)?;
+    assert_eq!(rt; decoder.position(), bytes.len());
+    assert_eq!(rt; frames.len(), count);
+    check_one_by_one(rt, alloc, bytes, &frames)
+}
+
+/// The dump of the trace is whole.
+pub fn check_whole_dump(rt: &impl Abort, alloc: Global, bytes: &[u8]) {
+    let mut out = Vec::new(alloc);
+    assert_eq!(rt; dump(alloc, bytes, &mut out), WHOLE);
+    assert!(rt; out.as_slice().ends_with(b"\nend whole\n"));
+}

@@ -1,0 +1,226 @@
+//! Values that have a size.
+
+use crate::tests::ample::{MILLION, SIZED, SIZES, spelled_length, text, value};
+use dial9_trace_format::leb128::EncodeError;
+use dial9_trace_format::types::{
+    EventEncoder, F64Bits, FieldType, FieldValue, FieldValueRef, InternedStackFrames,
+    InternedString, StackFrames,
+};
+use std::alloc::{AllocError, Global};
+use std::process::Abort;
+use std::test::Fail;
+
+/// The bytes of a value by its own kind.
+fn encoded(alloc: Global, value: &FieldValue) -> Result<Vec<u8>, EncodeError> {
+    let mut out = Vec::new(alloc);
+    value.encode(alloc, &mut out)?;
+    Ok(out)
+}
+
+/// The reader of owned values reads the value from these bytes.
+fn check_owned(
+    rt: &impl Abort,
+    alloc: Global,
+    field_type: FieldType,
+    bytes: &[u8],
+    value: &FieldValue,
+) -> Result<(), Fail> {
+    let (owned, rest) = FieldValue::decode(alloc, field_type, bytes)?.ok_or("no value")?;
+    assert!(rt; owned == *value);
+    assert_eq!(rt; rest.len(), 0);
+    Ok(())
+}
+
+/// The reader of borrowed values reads the value from these bytes, and its copies are equal.
+fn check_borrowed(
+    rt: &impl Abort,
+    alloc: Global,
+    field_type: FieldType,
+    bytes: &[u8],
+    value: &FieldValue,
+) -> Result<(), Fail> {
+    let (borrowed, length) = FieldValueRef::decode(alloc, field_type, bytes, 0)?.ok_or("none")?;
+    assert_eq!(rt; length, bytes.len());
+    assert!(rt; borrowed.clone(alloc)? == borrowed);
+    assert!(rt; borrowed.to_owned(alloc)? == *value);
+    Ok(())
+}
+
+/// The value of this size is made, spelled, read and copied.
+fn check_sized(
+    rt: &impl Abort,
+    alloc: Global,
+    field_type: FieldType,
+    size: usize,
+) -> Result<(), Fail> {
+    let value = value(alloc, field_type, size)?;
+    let bytes = encoded(alloc, &value)?;
+    assert_eq!(rt; bytes.len() as u64, spelled_length(field_type, size));
+    check_owned(rt, alloc, field_type, &bytes, &value)?;
+    check_borrowed(rt, alloc, field_type, &bytes, &value)?;
+    assert!(rt; value.clone(alloc)? == value);
+    Ok(())
+}
+
+#[test]
+fn values_of_each_size(rt: HostRuntime) -> Result<(), Fail> {
+    for field_type in SIZED {
+        for size in SIZES {
+            check_sized(&rt, rt.alloc(), field_type, size)?;
+        }
+    }
+    Ok(())
+}
+
+#[test]
+fn values_of_a_million_bytes(rt: HostRuntime) -> Result<(), Fail> {
+    check_sized(&rt, rt.alloc(), FieldType::String, MILLION)?;
+    check_sized(&rt, rt.alloc(), FieldType::Bytes, MILLION)
+}
+
+#[test]
+fn values_of_a_million_addresses(rt: HostRuntime) -> Result<(), Fail> {
+    check_sized(&rt, rt.alloc(), FieldType::StackFrames, MILLION)
+}
+
+#[test]
+fn values_of_a_million_pairs_of_texts(rt: HostRuntime) -> Result<(), Fail> {
+    check_sized(&rt, rt.alloc(), FieldType::StringMap, MILLION)
+}
+
+#[test]
+fn values_of_a_million_items(rt: HostRuntime) -> Result<(), Fail> {
+    check_sized(&rt, rt.alloc(), FieldType::DynamicList, MILLION)
+}
+
+#[test]
+fn values_of_a_million_pairs(rt: HostRuntime) -> Result<(), Fail> {
+    check_sized(&rt, rt.alloc(), FieldType::DynamicMap, MILLION)
+}
+
+/// The value of this size is written as a field, by the type and by its optional type.
+fn check_field(
+    rt: &impl Abort,
+    alloc: Global,
+    field_type: FieldType,
+    size: usize,
+) -> Result<(), Fail> {
+    let value = value(alloc, field_type, size)?;
+    let mut out = Vec::new(alloc);
+    EventEncoder::new(&mut out).write_field_value(&value, field_type)?;
+    assert_eq!(rt; out.len() as u64, spelled_length(field_type, size));
+    let mut out = Vec::new(alloc);
+    EventEncoder::new(&mut out).write_field_value(&value, field_type.optional())?;
+    assert_eq!(rt;
+        out.len() as u64,
+        spelled_length(field_type, size).saturating_add(1)
+    );
+    Ok(())
+}
+
+#[test]
+fn fields_of_each_size(rt: HostRuntime) -> Result<(), Fail> {
+    for field_type in SIZED {
+        for size in SIZES {
+            check_field(&rt, rt.alloc(), field_type, size)?;
+        }
+    }
+    Ok(())
+}
+
+#[test]
+fn fields_of_a_million(rt: HostRuntime) -> Result<(), Fail> {
+    for field_type in SIZED {
+        check_field(&rt, rt.alloc(), field_type, MILLION)?;
+    }
+    Ok(())
+}
+
+/// A text and bytes of this size, written by their own calls.
+fn texts_and_bytes(alloc: Global, size: usize) -> Result<Vec<u8>, EncodeError> {
+    let text = text(alloc, size)?;
+    let mut out = Vec::new(alloc);
+    let mut encoder = EventEncoder::new(&mut out);
+    encoder.write_string(text.as_str())?;
+    encoder.write_bytes(text.as_str().as_bytes())?;
+    Ok(out)
+}
+
+/// Addresses, written by their own call.
+fn addresses(alloc: Global, size: usize) -> Result<Vec<u8>, EncodeError> {
+    let frames = StackFrames::from_slice(alloc, &vec![in alloc; 7; size]?)?;
+    let frames = frames.clone(alloc)?;
+    let mut out = Vec::new(alloc);
+    EventEncoder::new(&mut out).write_stack_frames(&frames)?;
+    Ok(out)
+}
+
+/// So many pairs of empty texts.
+fn empty_pairs(alloc: Global, count: usize) -> Result<Vec<(String, String)>, AllocError> {
+    let mut pairs = Vec::new(alloc);
+    for _ in 0..count {
+        pairs.push((String::new(alloc), String::new(alloc)))?;
+    }
+    Ok(pairs)
+}
+
+/// Pairs of texts, written by their own call.
+fn texts_by_texts(alloc: Global, count: usize) -> Result<Vec<u8>, EncodeError> {
+    let pairs = empty_pairs(alloc, count)?;
+    let mut out = Vec::new(alloc);
+    EventEncoder::new(&mut out).write_string_map(&pairs)?;
+    Ok(out)
+}
+
+/// The calls of this size write what docs/FORMAT.md says of their length.
+fn check_calls(rt: &impl Abort, alloc: Global, size: usize) -> Result<(), Fail> {
+    let text = spelled_length(FieldType::String, size);
+    let texts = texts_and_bytes(alloc, size)?;
+    assert_eq!(rt; texts.len() as u64, text.saturating_mul(2));
+    let stack = addresses(alloc, size)?;
+    assert_eq!(rt;
+        stack.len() as u64,
+        spelled_length(FieldType::StackFrames, size)
+    );
+    let pairs = texts_by_texts(alloc, size.min(1_000_000))?;
+    assert_eq!(rt;
+        pairs.len() as u64,
+        spelled_length(FieldType::StringMap, size)
+    );
+    Ok(())
+}
+
+#[test]
+fn calls_of_each_size(rt: HostRuntime) -> Result<(), Fail> {
+    for size in SIZES {
+        check_calls(&rt, rt.alloc(), size)?;
+    }
+    check_calls(&rt, rt.alloc(), MILLION)
+}
+
+/// So many fields of each call that has no size, one after another.
+fn many_fields(alloc: Global, count: usize) -> Result<Vec<u8>, EncodeError> {
+    let mut out = Vec::new(alloc);
+    let mut encoder = EventEncoder::new(&mut out);
+    for _ in 0..count {
+        encoder.write_u8(1)?;
+        encoder.write_u16(1)?;
+        encoder.write_u32(1)?;
+        encoder.write_u64(1)?;
+        encoder.write_i64(1)?;
+        encoder.write_bool(true)?;
+        encoder.write_f64(F64Bits(1))?;
+        encoder.write_interned(InternedString::from_raw(1))?;
+        encoder.write_interned_stack_frames(InternedStackFrames::from_raw(1))?;
+    }
+    Ok(out)
+}
+
+#[test]
+fn fields_behind_any_count_of_others(rt: HostRuntime) -> Result<(), Fail> {
+    for count in SIZES {
+        let length = (count as u64).saturating_mul(33);
+        assert_eq!(rt; many_fields(rt.alloc(), count)?.len() as u64, length);
+    }
+    Ok(())
+}
