@@ -1,12 +1,13 @@
 //! Bytes, numbers and values sent to a writer that fails: what was answered, and what the writer tells of it.
 
 use crate::tests::told::{KINDS, breaking, check_told, kind_of, once, stepping};
-use dial9_trace_format::leb128::{EncodeError, Faults, encode_unsigned, send_all, send_bytes};
+use dial9_trace_format::leb128::{EncodeError, Faults, encode_unsigned, send_all};
 use dial9_trace_format::types::FieldValue;
 use std::alloc::Global;
 use std::process::Abort;
 use std::test::Fail;
 use trace_samples::{Script, Told};
+use trace_values::leb128::send_bytes;
 
 /// A call that sends to a writer.
 #[derive(Clone, Copy)]

@@ -1,6 +1,6 @@
 //! Values that have no size, and the absent value.
 
-use dial9_trace_format::leb128::{EncodeError, encode_unsigned, push_number};
+use dial9_trace_format::leb128::{EncodeError, encode_unsigned};
 use dial9_trace_format::types::{
     EventEncoder, F64Bits, FieldType, FieldValue, FieldValueRef, InternedStackFrames,
     InternedString, TraceField,
@@ -8,6 +8,7 @@ use dial9_trace_format::types::{
 use std::alloc::Global;
 use std::process::Abort;
 use std::test::Fail;
+use trace_values::leb128::push_number;
 
 /// A value of each type that has no size, and how many bytes spell it by the type.
 fn each_kind() -> [(FieldType, FieldValue, usize); 9] {
