@@ -74,7 +74,8 @@ fn push_items(out: &mut String, items: &[FieldValue]) -> Result<(), AllocError>
 
 #[cycle(value)]
 fn push_pairs(out: &mut String, pairs: &[(FieldValue, FieldValue)]) -> Result<(), AllocError>
-    ensures { OnOk result (string_bytes out.new ≡ string_bytes out.old ++ join_by (λ p. value_text (view p.0) ++ codes "=" ++ value_text (view p.1)) (codes ",") pairs.now) }
+    ensures { OnOk result (string_bytes out.new ≡
+        string_bytes out.old ++ join_by (λ p. value_text (view p.0) ++ codes "=" ++ value_text (view p.1)) (codes ",") pairs.now) }
 {
     let Some((first, others)) = pairs.split_first() else {
         return Ok(());
