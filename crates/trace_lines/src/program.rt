@@ -3,7 +3,7 @@
 
 ghost use Rattle.std.specs.Prelude.{◌≡◌, ◌≢◌, ◌≤◌, length};
 ghost use Rattle.trace_values.specs.Sending.{IsSettled};
-ghost use Rattle.trace_lines.specs.Program.{AsksFor, DumpsAll, note_for};
+ghost use Rattle.trace_lines.specs.Program.{AsksFor, DumpsAll, DumpsFront, note_for};
 
 use crate::dump::{FAILED, dump};
 use std::alloc::Global;
@@ -52,7 +52,8 @@ pub fn task_of(words: io::Result<usize>) -> Task
 }
 
 /// Does what is asked for, and answers the status: that of the dump of all that the input has left. `FAILED` where no dump
-/// is asked for, where the input could not be read to its end, where a growth was refused, and where the writer failed.
+/// is asked for, where the input could not be read to its end, where a growth was refused, and where the writer failed: then
+/// nothing was written, or a front of the dump.
 pub fn carry_out<R: Read, W: TraceWrite>(
     alloc: Global,
     task: Task,
@@ -60,6 +61,8 @@ pub fn carry_out<R: Read, W: TraceWrite>(
     out: &mut W,
 ) -> u8
     ensures asked { task ≢ Task.Dump → result ≡ FAILED }
+    ensures quiet { task ≢ Task.Dump → out.new ≡ out.old }
+    ensures front { DumpsFront (R.remaining input.old) (W.told out.old) (W.told out.new) }
     ensures lines { result ≢ FAILED → DumpsAll (R.remaining input.old) (W.told out.old) (W.told out.new) result }
     ensures settled { result ≢ FAILED → IsSettled (W.told out.new) }
 {

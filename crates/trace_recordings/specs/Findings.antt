@@ -10,7 +10,7 @@ use Rattle.trace_recordings.specs.declared.recording.Calls.{Calls}
 use Rattle.trace_recordings.specs.declared.recording.Recording.{Recording}
 use Rattle.trace_recordings.specs.declared.script.call.Call.{Call}
 use Rattle.trace_recordings.specs.Comparisons.{ended}
-use Rattle.trace_recordings.specs.Playing.{IsPlayed}
+use Rattle.trace_recordings.specs.Playing.{IsPlayed, IsOfScript}
 use Rattle.trace_recordings.specs.Refusals.{Refuses, FirstMissing}
 use Rattle.trace_recordings.specs.Scripts.{IsScript}
 
@@ -27,9 +27,9 @@ pub record ShowsPlayed (trace : List ℕ) (calls : Calls) (notes : List (String 
   pub played : IsPlayed calls.script.now bytes replies
   pub none_told : (notes ≡ []) ↔ ((trace ≡ bytes) × (ended calls.replies.now ≡ replies))
 
--- the script was not played, and that is told
+-- the script was not played, by a fault of its own, and that is told
 abbrev pub ShowsRefused : Calls → List (String Global) → Type 0
-ShowsRefused calls notes = (error : PlayError) × Refuses calls.script.now error × (notes ≢ [])
+ShowsRefused calls notes = (error : PlayError) × IsOfScript error × Refuses calls.script.now error × (notes ≢ [])
 
 -- a script was compared; or it is read whole and has a call that the library has not, of which the first has this name
 abbrev pub ShowsCalls : List ℕ → Calls → Outcome → Type 0

@@ -69,10 +69,11 @@ fn script_outcome(
             Ok(Outcome::Compared(notes))
         }
         Err(PlayError::LeftOut { call, .. }) => Ok(Outcome::LeftOut(call)),
-        Err(error) => {
+        Err(error) if error.is_of_script() => {
             let note = format!(in alloc; "the script was not played: {error}")?;
             Ok(Outcome::Compared(vec![in alloc; note]?))
         }
+        Err(_) => Err(AllocError),
     }
 }
 
