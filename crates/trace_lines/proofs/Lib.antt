@@ -1,4 +1,5 @@
 mod HexDigits
+mod ProgramLemmas
 mod Joined
 mod DumpLemmas
 mod Growing

@@ -1,35 +1,47 @@
 -- What the dump of given bytes is: its lines, and the status that the program ends with.
-use Rattle.std.specs.Prelude.{◌≡◌, ◌⊎◌, ℕ, ◌-◌, List, ◌++◌, length, drop}
+use Rattle.std.specs.Prelude.{◌≡◌, ◌⊎◌, ℕ, ◌-◌, Bool, true, false, List, ◌++◌, length, drop}
 use Rattle.std.specs.List.{flat_map}
-use Rattle.trace_values.specs.Values.{owned_reader}
+use Rattle.trace_values.specs.Values.{Kind, owned_reader, borrowed}
 use Rattle.trace_wire.specs.Schemas.{Shape}
 use Rattle.trace_wire.specs.Frames.{Grammar, empty, Frame, Schema}
-use Rattle.trace_wire.specs.Runs.{Begins, Ending, Whole, Stopped, Conflict, IsLongest, Item, items}
+use Rattle.trace_wire.specs.Runs.{Begins, Ending, Whole, Stopped, Conflict, IsLongest, Item, items, Pools, no_pools}
 use Rattle.dial9_trace_format.specs.Decoding.{StartsWith}
 use Rattle.trace_lines.specs.Lines.{line, item_line, first_line, no_header_line, whole_line, stopped_line, conflict_line}
+use Rattle.trace_lines.specs.ResolvedLines.{event_lines, events_of}
+
+-- which reader a dump is of: that of owned values; where events are resolved, that of borrowed ones
+abbrev pub reader_of : Bool → Kind
+reader_of false = owned_reader
+reader_of true = borrowed
 
 -- the line of each item
 abbrev pub item_lines : List Item → List ℕ
 item_lines shown = flat_map (λ i. line (item_line i)) shown
 
+-- the lines of frames that are read one after another, in a state and with pools: of each item, or of each event, resolved
+abbrev pub frame_lines : Bool → Grammar → Pools → List Frame → List ℕ
+frame_lines false g p frames = item_lines (items frames)
+frame_lines true g p frames = event_lines (events_of g p frames)
+
 -- The last line and the status, where the longest run over bytes of a size ends before the rest. A place is told by the
 -- bytes before it: before the rest, or behind the schema that differs from what its wire id stands for.
-abbrev pub IsEnd : ℕ → Grammar → List ℕ → Ending → ℕ → List ℕ → Type 0
-IsEnd size last rest Whole status text = (status ≡ 0) × (text ≡ whole_line)
-IsEnd size last rest Stopped status text = (status ≡ 2) × (text ≡ stopped_line (size - length rest))
-IsEnd size last rest Conflict status text =
-    (id : ℕ) × (shape : Shape) × (after : List ℕ) × Begins owned_reader last rest (Schema id shape) after × (status ≡ 3) × (text ≡ conflict_line (size - length after) id)
+abbrev pub IsEnd : Kind → ℕ → Grammar → List ℕ → Ending → ℕ → List ℕ → Type 0
+IsEnd k size last rest Whole status text = (status ≡ 0) × (text ≡ whole_line)
+IsEnd k size last rest Stopped status text = (status ≡ 2) × (text ≡ stopped_line (size - length rest))
+IsEnd k size last rest Conflict status text =
+    (id : ℕ) × (shape : Shape) × (after : List ℕ) × Begins k last rest (Schema id shape) after × (status ≡ 3) × (text ≡ conflict_line (size - length after) id)
 
--- the lines behind the first, of bytes that end an input of a size: the items of the longest run of the owned reader, and its end
-pub record IsDumpFrom (g : Grammar) (size : ℕ) (bytes : List ℕ) (status : ℕ) (text : List ℕ) : Type 0 where
+-- the lines behind the first, of bytes that end an input of a size, in a state and with pools: those of the longest run of the
+-- reader, and of its end
+pub record IsDumpFrom (resolve : Bool) (g : Grammar) (p : Pools) (size : ℕ) (bytes : List ℕ) (status : ℕ) (text : List ℕ) : Type 0 where
   pub frames : List Frame
   pub rest : List ℕ
   pub end : Ending
   pub last : Grammar
-  pub longest : IsLongest owned_reader g bytes frames rest end last
+  pub longest : IsLongest (reader_of resolve) g bytes frames rest end last
   pub last_line : List ℕ
-  pub ends : IsEnd size last rest end status last_line
-  pub text_is : text ≡ item_lines (items frames) ++ line last_line
+  pub ends : IsEnd (reader_of resolve) size last rest end status last_line
+  pub text_is : text ≡ frame_lines resolve g p frames ++ line last_line
 
 -- the dump of an input that does not begin with a header
 pub record IsNoDump (input : List ℕ) (status : ℕ) (text : List ℕ) : Type 0 where
@@ -38,19 +50,19 @@ pub record IsNoDump (input : List ℕ) (status : ℕ) (text : List ℕ) : Type 0
   pub text_is : text ≡ line no_header_line
 
 -- the dump of a stream: its version, and the lines of what stands behind the five bytes of its header
-pub record IsStreamDump (input : List ℕ) (status : ℕ) (text : List ℕ) : Type 0 where
+pub record IsStreamDump (resolve : Bool) (input : List ℕ) (status : ℕ) (text : List ℕ) : Type 0 where
   pub version : ℕ
   pub header : StartsWith input version
   pub lines : List ℕ
-  pub behind : IsDumpFrom empty (length input) (drop 5 input) status lines
+  pub behind : IsDumpFrom resolve empty no_pools (length input) (drop 5 input) status lines
   pub text_is : text ≡ line (first_line version) ++ lines
 
--- the dump of any input
-abbrev pub IsDump : List ℕ → ℕ → List ℕ → Type 0
-IsDump input status text = IsNoDump input status text ⊎ IsStreamDump input status text
+-- the dump of any input: of all its items as they are, or of its events, resolved
+abbrev pub IsDump : Bool → List ℕ → ℕ → List ℕ → Type 0
+IsDump resolve input status text = IsNoDump input status text ⊎ IsStreamDump resolve input status text
 
 -- bytes that the dump of an input begins with
-pub record BeginsDump (input : List ℕ) (written : List ℕ) : Type 0 where
+pub record BeginsDump (resolve : Bool) (input : List ℕ) (written : List ℕ) : Type 0 where
   pub status : ℕ
   pub behind : List ℕ
-  pub is : IsDump input status (written ++ behind)
+  pub is : IsDump resolve input status (written ++ behind)

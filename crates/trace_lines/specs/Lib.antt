@@ -1,4 +1,5 @@
 pub mod Lines
+pub mod ResolvedLines
 pub mod Dumps
 pub mod Sent
 pub mod Program

@@ -1,34 +1,47 @@
 -- What the program that dumps is asked for, and what it does.
-use Rattle.std.specs.Prelude.{◌≡◌, ◌≢◌, ◌⊎◌, ℕ, ◌≤◌, ◌<◌, ◌==◌, if◌then◌else◌, List, [], Option, Some, Result, Ok, Err, codes}
+use Rattle.std.specs.Prelude.{◌≡◌, ◌≢◌, ◌⊎◌, ℕ, Bool, true, false, ◌==◌, if◌then◌else◌, List, [], ◌∷◌, Option, Some, Result, Ok, Err, String, Vec, codes, string_bytes}
 use Rattle.std.specs.IoError.{error_kind}
+use Rattle.std.specs.declared.alloc.Global.{Global}
 use Rattle.std.specs.declared.io.Error.{Error}
 use Rattle.std.specs.declared.io.ErrorKind.{ErrorKind}
 use Rattle.std.specs.declared.io.ErrorKind.TheVariants.{InvalidData}
 use Rattle.trace_values.specs.Sending.{Account, Took}
 use Rattle.trace_lines.specs.Dumps.{IsDump, BeginsDump}
 use Rattle.trace_lines.specs.declared.program.Task.{Task}
-use Rattle.trace_lines.specs.declared.program.Task.TheVariants.{Dump, Usage, Fail}
+use Rattle.trace_lines.specs.declared.program.Task.TheVariants.{Dump, Resolve, Usage, Fail}
 
--- what a number of words asks for, the program's name among them: any word after the name asks for the usage, also one that is not UTF-8
-abbrev pub AsksFor : Result ℕ Error → Task → Type 0
-AsksFor (Ok words) Dump = words ≤ 1
-AsksFor (Ok words) Usage = 1 < words
-AsksFor (Ok words) Fail = ⊥
-AsksFor (Err error) Dump = ⊥
+-- what the words after the program's name ask for: none for the dump, the one word `--resolve` for that of events, resolved, and
+-- all else for the usage
+abbrev pub WordsAskFor : List (String Global) → Task → Type 0
+WordsAskFor words Dump = words ≡ []
+WordsAskFor words Resolve = (word : String Global) × (words ≡ word ∷ []) × (string_bytes word ≡ codes "--resolve")
+WordsAskFor words Usage = (words ≢ []) × ((word : String Global) → words ≡ word ∷ [] → string_bytes word ≢ codes "--resolve")
+WordsAskFor words Fail = ⊥
+
+-- the same where they may not be had: a word that is not UTF-8 asks for the usage
+abbrev pub AsksFor : Result (Vec (String Global) Global) Error → Task → Type 0
+AsksFor (Ok words) task = WordsAskFor words.items task
 AsksFor (Err error) Usage = error_kind error ≡ InvalidData
 AsksFor (Err error) Fail = error_kind error ≢ InvalidData
+AsksFor (Err error) task = ⊥
+
+-- whether events are to be resolved
+abbrev pub resolves : Task → Bool
+resolves Resolve = true
+resolves task = false
 
 -- the dump of all that a reader has left was written, where it tells what it has left
-abbrev pub DumpsAll : Option (List ℕ) → Account → Account → ℕ → Type 0
-DumpsAll remaining old new status = (bytes : List ℕ) → remaining ≡ Some bytes → (text : List ℕ) × IsDump bytes status text × Took old new text []
+abbrev pub DumpsAll : Bool → Option (List ℕ) → Account → Account → ℕ → Type 0
+DumpsAll resolve remaining old new status = (bytes : List ℕ) → remaining ≡ Some bytes → (text : List ℕ) × IsDump resolve bytes status text × Took old new text []
 
 -- whatever came of it, nothing was written, or a front of the dump of all that the reader has left
-abbrev pub DumpsFront : Option (List ℕ) → Account → Account → Type 0
-DumpsFront remaining old new = (bytes : List ℕ) → remaining ≡ Some bytes
-    → (written : List ℕ) × (kinds : List ErrorKind) × ((written ≡ []) ⊎ BeginsDump bytes written) × Took old new written kinds
+abbrev pub DumpsFront : Bool → Option (List ℕ) → Account → Account → Type 0
+DumpsFront resolve remaining old new = (bytes : List ℕ) → remaining ≡ Some bytes
+    → (written : List ℕ) × (kinds : List ErrorKind) × ((written ≡ []) ⊎ BeginsDump resolve bytes written) × Took old new written kinds
 
 -- what is told beside the dump: how to call the program, that it failed, or nothing
 abbrev pub note_for : Task → ℕ → List ℕ
 note_for Usage status = codes "usage: tracedump [--resolve]\n"
+note_for Resolve status = if status == 4 then codes "tracedump: failed\n" else []
 note_for Dump status = if status == 4 then codes "tracedump: failed\n" else []
 note_for Fail status = if status == 4 then codes "tracedump: failed\n" else []

@@ -5,5 +5,6 @@ pub mod dump;
 mod entries;
 mod lines;
 pub mod program;
+mod resolved;
 pub mod text;
 pub mod value;

@@ -1,9 +1,9 @@
 //! The program `tracedump` (docs/FORMAT.md, "Dumps"): reads a trace from standard input, and writes the lines of what it
 //! holds to standard output. Programs call `run`, which decides nothing by itself.
 
-ghost use Rattle.std.specs.Prelude.{◌≡◌, ◌≢◌, ◌≤◌, length};
+ghost use Rattle.std.specs.Prelude.{◌≡◌, ◌≢◌};
 ghost use Rattle.trace_values.specs.Sending.{IsSettled};
-ghost use Rattle.trace_lines.specs.Program.{AsksFor, DumpsAll, DumpsFront, note_for};
+ghost use Rattle.trace_lines.specs.Program.{AsksFor, WordsAskFor, resolves, DumpsAll, DumpsFront, note_for};
 
 use crate::dump::{FAILED, dump};
 use std::alloc::Global;
@@ -18,6 +18,8 @@ use trace_values::leb128::{Plain, TraceWrite};
 pub enum Task {
     /// The dump of standard input.
     Dump,
+    /// The dump of the events of standard input, resolved.
+    Resolve,
     /// How to call the program.
     Usage,
     /// Nothing: the arguments could not be read.
@@ -26,11 +28,7 @@ pub enum Task {
 
 /// Runs the program, and answers the status with which it ends.
 pub fn run(rt: &(impl AllocGlobal + Env + Input + Print + Eprint)) -> ExitCode {
-    let words = match env::args(rt) {
-        Ok(words) => Ok(words.len()),
-        Err(error) => Err(error),
-    };
-    let task = task_of(words);
+    let task = task_of(words_of(rt));
     let mut input = rt.reader();
     let mut output = Plain(io::writer(rt));
     let status = carry_out(rt.alloc(), task, &mut input, &mut output);
@@ -38,16 +36,31 @@ pub fn run(rt: &(impl AllocGlobal + Env + Input + Print + Eprint)) -> ExitCode {
     ExitCode::from(status)
 }
 
-/// What the arguments ask for, by the number of words with the program's name, or by why they could not be read. Any
-/// word after the name asks for the usage, one that is not UTF-8 too.
-pub fn task_of(words: io::Result<usize>) -> Task
+// The words after the program's name.
+fn words_of(rt: &(impl AllocGlobal + Env)) -> io::Result<Vec<String>> {
+    let arguments = env::args(rt)?;
+    Ok(arguments.skip(1).collect(rt.alloc())?)
+}
+
+/// What the words after the program's name ask for, or why they could not be read. All but no word and the one word
+/// `--resolve` asks for the usage, also a word that is not UTF-8.
+pub fn task_of(words: io::Result<Vec<String>>) -> Task
     ensures { AsksFor words result }
 {
     match words {
-        Ok(0 | 1) => Task::Dump,
-        Ok(_) => Task::Usage,
+        Ok(words) => task_of_words(&words),
         Err(error) if error.kind() == ErrorKind::InvalidData => Task::Usage,
         Err(_) => Task::Fail,
+    }
+}
+
+fn task_of_words(words: &[String]) -> Task
+    ensures { WordsAskFor words.now result }
+{
+    match words {
+        [] => Task::Dump,
+        [word] if word.as_str() == "--resolve" => Task::Resolve,
+        _ => Task::Usage,
     }
 }
 
@@ -60,18 +73,20 @@ pub fn carry_out<R: Read, W: TraceWrite>(
     input: &mut R,
     out: &mut W,
 ) -> u8
-    ensures asked { task ≢ Task.Dump → result ≡ FAILED }
-    ensures quiet { task ≢ Task.Dump → out.new ≡ out.old }
-    ensures front { DumpsFront (R.remaining input.old) (W.told out.old) (W.told out.new) }
-    ensures lines { result ≢ FAILED → DumpsAll (R.remaining input.old) (W.told out.old) (W.told out.new) result }
+    ensures asked { task ≢ Task.Dump → task ≢ Task.Resolve → result ≡ FAILED }
+    ensures quiet { task ≢ Task.Dump → task ≢ Task.Resolve → out.new ≡ out.old }
+    ensures front { DumpsFront (resolves task) (R.remaining input.old) (W.told out.old) (W.told out.new) }
+    ensures lines { result ≢ FAILED → DumpsAll (resolves task) (R.remaining input.old) (W.told out.old) (W.told out.new) result }
     ensures settled { result ≢ FAILED → IsSettled (W.told out.new) }
 {
-    if task != Task::Dump {
-        return FAILED;
-    }
+    let resolve = match task {
+        Task::Dump => false,
+        Task::Resolve => true,
+        Task::Usage | Task::Fail => return FAILED,
+    };
     let mut bytes = Vec::new(alloc);
     match input.read_to_end(&mut bytes) {
-        Ok(_) => dump(alloc, &bytes, out),
+        Ok(_) => dump(alloc, &bytes, out, resolve),
         Err(_) => FAILED,
     }
 }

@@ -3,5 +3,7 @@ pub mod ScriptLemmas
 pub mod TallyLemmas
 pub mod DigitLemmas
 mod ProgramLemmas
+pub mod HeadLemmas
 pub mod RefusalLemmas
 pub mod FindingLemmas
+pub mod SampleLemmas

@@ -6,10 +6,15 @@ use Rattle.trace_writer.specs.State.{WriterState}
 use Rattle.trace_writer.specs.Calls.{Action, fresh_state, header}
 use Rattle.trace_writer.specs.Runs.{Plays}
 use Rattle.trace_writer.specs.Headline.{FreshHeadline}
+use Rattle.trace_recordings.specs.declared.script.definitions.Definition.{Definition}
 use Rattle.trace_recordings.specs.declared.script.call.Call.{Call}
 use Rattle.trace_recordings.specs.declared.script.call.Call.TheVariants.{Nothing, Define, Register, Event, DefineType, WriteTyped, InternString, InternStack, StringPool, StackPool, Reset, Resume, Raw, Bare}
+use Rattle.trace_recordings.specs.declared.player.Note.{Note}
+use Rattle.trace_recordings.specs.declared.player.Note.TheVariants.{Answered, Silent}
 use Rattle.trace_recordings.specs.declared.player.PlayError.{PlayError}
-use Rattle.trace_recordings.specs.Playing.{Playing, Schemas, with_reply, start, Asks, IsAsked, IsOfEncoder, IsWritten, Turns, TurnsEach}
+use Rattle.trace_recordings.specs.declared.typed.Sample.{Sample}
+use Rattle.trace_wire.specs.Schemas.{Entry}
+use Rattle.trace_recordings.specs.Playing.{DefinesType, Playing, with_reply, with_type, start, Asks, Resets, IsAsked, IsOfEncoder, IsWritten, Turns, TurnsEach}
 
 no_action : (a : Action) → None ≡ Some a → ⊥
 no_action a e = cc
@@ -20,25 +25,36 @@ turns_asked p Nothing q h = absurd (no_action h.2.action h.2.asked)
 turns_asked p (Define handle definition) q h = absurd (no_action h.2.action h.2.asked)
 turns_asked p (Register handle) q h = h
 turns_asked p (Event handle time values) q h = h
-turns_asked p (DefineType handle slot definition) q h = h
+turns_asked p (DefineType handle slot definition) q h = absurd (no_action h.2.action h.2.asked)
 turns_asked p (WriteTyped handle time values) q h = h
 turns_asked p (InternString text) q h = h
 turns_asked p (InternStack frames) q h = h
 turns_asked p (StringPool entries) q h = h
 turns_asked p (StackPool entries) q h = h
-turns_asked p Reset q h = h
+turns_asked p Reset q h = absurd (no_action h.2.action h.2.asked)
 turns_asked p Resume q h = h
 turns_asked p (Raw bytes) q h = absurd (no_action h.2.action h.2.asked)
 turns_asked p Bare q h = absurd (no_action h.2.action h.2.asked)
 
 -- the encoder was asked, and then its reply noted, where that was done
-pub asked_turn : (r : Result (Unit {0}) PlayError) (p : Playing) (call : Call) (reply : Reply) (mid q : Playing) → Asks p call reply mid → OnOk r (q ≡ with_reply (Some reply) mid) → OnOk r (Turns p call q)
+pub asked_turn : (r : Result (Unit {0}) PlayError) (p : Playing) (call : Call) (reply : Reply) (mid q : Playing) → Asks p call reply mid → OnOk r (q ≡ with_reply (Answered reply) mid) → OnOk r (Turns p call q)
 asked_turn (Ok u) p call reply mid q asks noted = turns_asked p call q (reply, mid, asks, noted)
 asked_turn (Err e) p call reply mid q asks noted = tt
 
+-- a new trace was begun, and then the reply noted, where that was done
+pub reset_turn : (r : Result (Unit {0}) PlayError) (p : Playing) (call : Call) (note : Note) (mid q : Playing) → call ≡ Reset → Resets p note mid → OnOk r (q ≡ with_reply note mid) → OnOk r (Turns p call q)
+reset_turn (Ok u) p call note mid q is resets noted = subst (λ (c : Call). Turns p c q) (sym is) (note, mid, resets, noted)
+reset_turn (Err e) p call note mid q is resets noted = tt
+
+-- a type was kept, and then that noted
+pub type_turn : (r : Result (Unit {0}) PlayError) (p : Playing) (call : Call) (handle slot : ℕ) (definition : Definition) (mid q : Playing) → call ≡ DefineType handle slot definition → DefinesType handle slot definition p mid → OnOk r (q ≡ with_reply Silent mid) → OnOk r (Turns p call q)
+type_turn (Ok u) p call handle slot definition mid q is defines noted = subst (λ (c : Call). Turns p c q) (sym is) (mid, defines, noted)
+type_turn (Err e) p call handle slot definition mid q is defines noted = tt
+
 -- nothing was done yet
-pub started : (state : WriterState) (defined : Schemas) (bytes replies : List ℕ) → state ≡ fresh_state → defined ≡ [] → bytes ≡ header → replies ≡ [] → record { state = state; defined = defined; bytes = bytes; replies = replies } ≡ start
-started state defined bytes replies s d b r = rw (s, d, b, r)
+pub started : (state : WriterState) (schemas : List (ℕ × Entry)) (types : List (ℕ × Sample)) (bytes replies : List ℕ) → state ≡ fresh_state → schemas ≡ [] → types ≡ [] → bytes ≡ header → replies ≡ []
+    → record { state = state; defined = record { schemas = schemas; types = types }; bytes = bytes; replies = replies } ≡ start
+started state schemas types bytes replies s d t b r = rw (s, d, t, b, r)
 
 -- one more call
 pub TurnsEach-append : (p q r : Playing) (calls : List Call) (call : Call) → TurnsEach p calls q → Turns q call r → TurnsEach p (calls ++ call ∷ []) r
@@ -76,20 +92,23 @@ asked p call q r h after =
       bytes = later.bytes ∙ (ap (λ (b : List ℕ). b ++ later.sent) output ∙ append_assoc p.bytes h.2.sent later.sent);
     }
 
+typed : (p mid q : Playing) (handle slot : ℕ) (definition : Definition) (defines : DefinesType handle slot definition p mid) → q ≡ with_reply Silent mid → q ≡ with_reply Silent (with_type handle defines.0 p)
+typed p mid q handle slot definition defines noted = noted ∙ ap (with_reply Silent) defines.2
+
 -- before it, a turn
 turn : (p : Playing) (call : Call) (q r : Playing) → IsOfEncoder call → Turns p call q → Written q r → Written p r
 turn p Nothing q r plain h later = quiet p q r (ap (λ (x : Playing). x.state) h) (ap (λ (x : Playing). x.bytes) h) later
 turn p (Define handle definition) q r plain h later = quiet p q r (ap (λ (x : Playing). x.state) h) (ap (λ (x : Playing). x.bytes) h) later
 turn p (Register handle) q r plain h later = asked p (Register handle) q r h later
 turn p (Event handle time values) q r plain h later = asked p (Event handle time values) q r h later
-turn p (DefineType handle slot definition) q r plain h later = asked p (DefineType handle slot definition) q r h later
+turn p (DefineType handle slot definition) q r plain h later = quiet p q r (ap (λ (x : Playing). x.state) (typed p h.0 q handle slot definition h.1 h.2)) (ap (λ (x : Playing). x.bytes) (typed p h.0 q handle slot definition h.1 h.2)) later
 turn p (WriteTyped handle time values) q r plain h later = asked p (WriteTyped handle time values) q r h later
 turn p (InternString text) q r plain h later = asked p (InternString text) q r h later
 turn p (InternStack frames) q r plain h later = asked p (InternStack frames) q r h later
 turn p (StringPool entries) q r plain h later = asked p (StringPool entries) q r h later
 turn p (StackPool entries) q r plain h later = asked p (StackPool entries) q r h later
-turn p Reset q r plain h later = asked p Reset q r h later
-turn p Resume q r plain h later = asked p Resume q r h later
+turn p Reset q r plain h later = absurd plain
+turn p Resume q r plain h later = absurd plain
 turn p (Raw bytes) q r plain h later = absurd plain
 turn p Bare q r plain h later = absurd plain
 

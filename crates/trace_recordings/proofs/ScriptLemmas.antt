@@ -1,13 +1,16 @@
 -- Lines of a script, one after another.
-use Rattle.std.proofs.Common.{◌≡◌, ℕ, ◌+◌, ◌-◌, ◌<◌, ◌==◌, List, [], ◌∷◌, ◌++◌, length, take, drop, get_or, false, Option, Some, None, refl, sym, ◌∙◌, ap, subst, append_assoc, arith}
+use Rattle.std.proofs.Common.{◌≡◌, ◌≢◌, codes, true, ℕ, ◌+◌, ◌-◌, ◌<◌, ◌==◌, List, [], ◌∷◌, ◌++◌, length, take, drop, get_or, false, Option, Some, None, refl, sym, ◌∙◌, ap, subst, append_assoc, arith}
 use Rattle.std.specs.List.{position_or_len}
 use Rattle.std.proofs.lemmas.Bool.Decides.{Decides-eqb, nat_tests}
 use Rattle.std.proofs.lemmas.Grind.{common_steps}
 use Rattle.std.proofs.lemmas.List.Elements.{All-from_get_or}
 use Rattle.std.proofs.lemmas.List.Splits.{slice_split_first, slice_split_none}
 use Rattle.std.proofs.lemmas.List.Sums.{position_or_len_is}
+use Rattle.trace_recordings.specs.declared.script.ScriptError.{ScriptError}
+use Rattle.trace_recordings.specs.declared.script.fault.Fault.TheVariants.{Memory}
 use Rattle.trace_recordings.specs.declared.script.call.Call.{Call}
-use Rattle.trace_recordings.specs.Scripts.{Says, SayEach, lines_of, IsScript, IsBrokenAt, IsFirstLine, GainsCall}
+use Rattle.trace_recordings.specs.declared.script.call.Call.TheVariants.{Nothing, Define, Register, Event, DefineType, WriteTyped, InternString, InternStack, StringPool, StackPool, Reset, Resume, Raw, Bare}
+use Rattle.trace_recordings.specs.Scripts.{Says, SayEach, lines_of, IsScript, IsBrokenAt, IsFirstLine, GainsCall, SaysNoWord, is_silent}
 use Rattle.trace_recordings.specs.Tallies.{counted_on}
 
 pub not_equal : (x y : ℕ) → (x ≡ y → ⊥) → (x == y) ≡ false
@@ -52,25 +55,44 @@ as_many (l ∷ lines) [] each = absurd each
 as_many (l ∷ lines) (c ∷ calls) each = omega (arith, as_many lines calls each.1)
 
 -- the next line is broken
-pub broken_at : (text rest line : List ℕ) (more : Option (List ℕ)) (calls : List Call) (number : ℕ) → SayFront text calls rest → IsFirstLine rest line more → number ≡ counted_on (length calls) 1 → IsBrokenAt text number
-broken_at text rest line None calls number front first n = record {
+pub broken_at : (text rest line : List ℕ) (more : Option (List ℕ)) (calls : List Call) (error : ScriptError) → SayFront text calls rest → IsFirstLine rest line more → error.line ≡ counted_on (length calls) 1 → (error.fault ≢ Memory → SaysNoWord line) → IsBrokenAt text error
+broken_at text rest line None calls error front first n u = record {
   before = front.front;
   calls = calls;
   said = front.said;
   broken = line;
   after = [];
   parts = front.parts ∙ ap (λ (t : List (List ℕ)). front.front ++ t) first;
+  unsaid = u;
   counts = n ∙ ap (λ (k : ℕ). counted_on k 1) (sym (as_many front.front calls front.said));
 }
-broken_at text rest line (Some more) calls number front first n = record {
+broken_at text rest line (Some more) calls error front first n u = record {
   before = front.front;
   calls = calls;
   said = front.said;
   broken = line;
   after = lines_of more;
   parts = front.parts ∙ ap (λ (t : List (List ℕ)). front.front ++ t) first;
+  unsaid = u;
   counts = n ∙ ap (λ (k : ℕ). counted_on k 1) (sym (as_many front.front calls front.said));
 }
+
+-- a line that is none of these says no call of one word
+pub no_word : (line : List ℕ) → is_silent line ≡ false → line ≢ codes "reset" → line ≢ codes "resume" → line ≢ codes "bare" → SaysNoWord line
+no_word line loud reset resume bare Nothing word says = absurd (let wrong : true ≡ false = sym says ∙ loud in cc)
+no_word line loud reset resume bare (Define handle definition) word says = word
+no_word line loud reset resume bare (Register handle) word says = word
+no_word line loud reset resume bare (Event handle time values) word says = word
+no_word line loud reset resume bare (DefineType handle slot definition) word says = word
+no_word line loud reset resume bare (WriteTyped handle time values) word says = word
+no_word line loud reset resume bare (InternString text) word says = word
+no_word line loud reset resume bare (InternStack frames) word says = word
+no_word line loud reset resume bare (StringPool entries) word says = word
+no_word line loud reset resume bare (StackPool entries) word says = word
+no_word line loud reset resume bare Reset word says = reset says
+no_word line loud reset resume bare Resume word says = resume says
+no_word line loud reset resume bare (Raw bytes) word says = word
+no_word line loud reset resume bare Bare word says = bare says
 
 -- a line feed, and none before it
 pub feed_at : (text : List ℕ) (at : ℕ) → at < length text → get_or text at 0 ≡ 10 → ((k : ℕ) → k < at → get_or text k 0 ≡ 10 → ⊥) → lines_of text ≡ take at text ∷ lines_of (take (length text - (at + 1)) (drop (at + 1) text))

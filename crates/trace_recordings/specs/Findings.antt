@@ -1,5 +1,5 @@
 -- What a recording shows.
-use Rattle.std.specs.Prelude.{◌≡◌, ◌≢◌, ◌⊎◌, ◌↔◌, ℕ, List, [], Option, Some, None, Ok, String}
+use Rattle.std.specs.Prelude.{◌≡◌, ◌≢◌, ◌⊎◌, ◌↔◌, ℕ, Bool, true, false, is_some, List, [], Option, Some, None, Ok, String}
 use Rattle.std.specs.declared.alloc.Global.{Global}
 use Rattle.hex.specs.Hex.{decode_of}
 use Rattle.trace_lines.specs.Dumps.{IsDump}
@@ -7,6 +7,7 @@ use Rattle.trace_recordings.specs.declared.findings.Outcome.{Outcome}
 use Rattle.trace_recordings.specs.declared.findings.Outcome.TheVariants.{Absent, LeftOut, Compared}
 use Rattle.trace_recordings.specs.declared.player.PlayError.{PlayError}
 use Rattle.trace_recordings.specs.declared.recording.Calls.{Calls}
+use Rattle.trace_recordings.specs.declared.recording.Readings.{Readings}
 use Rattle.trace_recordings.specs.declared.recording.Recording.{Recording}
 use Rattle.trace_recordings.specs.declared.script.call.Call.{Call}
 use Rattle.trace_recordings.specs.Comparisons.{ended}
@@ -15,10 +16,10 @@ use Rattle.trace_recordings.specs.Refusals.{Refuses, FirstMissing}
 use Rattle.trace_recordings.specs.Scripts.{IsScript}
 
 -- the trace has a dump, and no difference is told exactly where the recorded lines are that dump
-abbrev pub ShowsDump : List ℕ → List ℕ → Outcome → Type 0
-ShowsDump trace lines Absent = ⊥
-ShowsDump trace lines (LeftOut name) = ⊥
-ShowsDump trace lines (Compared notes) = (status : ℕ) × (text : List ℕ) × IsDump trace status text × ((notes.items ≡ []) ↔ (ended lines ≡ text))
+abbrev pub ShowsDump : Bool → List ℕ → List ℕ → Outcome → Type 0
+ShowsDump resolve trace lines Absent = ⊥
+ShowsDump resolve trace lines (LeftOut name) = ⊥
+ShowsDump resolve trace lines (Compared notes) = (status : ℕ) × (text : List ℕ) × IsDump resolve trace status text × ((notes.items ≡ []) ↔ (ended lines ≡ text))
 
 -- the script was played, and no difference is told exactly where the trace and the recorded replies are what its calls make
 pub record ShowsPlayed (trace : List ℕ) (calls : Calls) (notes : List (String Global)) : Type 0 where
@@ -50,8 +51,25 @@ WhereRead r shown = (trace : List ℕ) → decode_of r.bytes.now ≡ Ok trace �
 abbrev pub IsUnread : Recording → Type 0
 IsUnread r = WhereRead r (λ trace. ⊥)
 
+-- the same of the dump with resolved events, where its lines were recorded
+abbrev pub ShowsResolved : List ℕ → Option Readings → Outcome → Type 0
+ShowsResolved trace None outcome = outcome ≡ Absent
+ShowsResolved trace (Some readings) outcome = ShowsDump true trace readings.resolved.now outcome
+
 -- nothing is compared, and a difference is told
-abbrev pub ShowsUnread : Outcome → Outcome → Type 0
-ShowsUnread script Absent = ⊥
-ShowsUnread script (LeftOut name) = ⊥
-ShowsUnread script (Compared notes) = (script ≡ Absent) × (notes.items ≢ [])
+abbrev pub ShowsUnread : (script dump resolved : Outcome) → Type 0
+ShowsUnread script Absent resolved = ⊥
+ShowsUnread script (LeftOut name) resolved = ⊥
+ShowsUnread script (Compared notes) resolved = (script ≡ Absent) × (resolved ≡ Absent) × (notes.items ≢ [])
+
+-- the borrowed reader has another dump
+abbrev pub has_borrowed : Option Readings → Bool
+has_borrowed None = false
+has_borrowed (Some readings) = is_some readings.borrowed
+
+-- a part that the library has nothing for is left out by its name, where it is there
+abbrev pub LeavesPart : Bool → List ℕ → Outcome → Type 0
+LeavesPart false name outcome = outcome ≡ Absent
+LeavesPart true name Absent = ⊥
+LeavesPart true name (LeftOut word) = word.now ≡ name
+LeavesPart true name (Compared notes) = ⊥

@@ -8,3 +8,4 @@ pub mod Recordings
 pub mod Tallies
 pub mod Program
 pub mod Refusals
+pub mod Samples

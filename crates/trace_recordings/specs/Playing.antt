@@ -15,19 +15,24 @@ use Rattle.trace_writer.specs.declared.encoder.call.Reply.TheVariants.{Done, Wir
 use Rattle.trace_writer.specs.State.{EncoderView, WriterState}
 use Rattle.std.specs.declared.alloc.Global.{Global}
 use Rattle.trace_values.specs.Sending.{telling}
-use Rattle.trace_writer.specs.Calls.{Action, Does, register, write_event, intern_string, write_string_pool, intern_stack, write_stack_pool, Answered, fresh_state, header}
+use Rattle.trace_writer.specs.Calls.{Action, Does, register, write_event, write_type, intern_string, write_string_pool, intern_stack, write_stack_pool, Answered, fresh_state, header}
 use Rattle.trace_writer.specs.Runs.{Plays}
 use Rattle.trace_writer.specs.Headline.{AreFaultless, IsRead, frames_played}
 use Rattle.trace_recordings.specs.declared.script.call.Call.{Call}
-use Rattle.trace_recordings.specs.declared.script.call.Call.TheVariants.{Nothing, Define, Register, Event, InternString, InternStack, StringPool, StackPool, Raw, Bare}
+use Rattle.trace_recordings.specs.declared.script.call.Call.TheVariants.{Nothing, Define, Register, Event, DefineType, WriteTyped, InternString, InternStack, StringPool, StackPool, Reset, Resume, Raw, Bare}
 use Rattle.trace_recordings.specs.declared.script.definitions.Annotation.{Annotation}
 use Rattle.trace_recordings.specs.declared.script.definitions.Definition.{Definition}
 use Rattle.trace_recordings.specs.declared.script.pools.PoolText.{PoolText}
 use Rattle.trace_recordings.specs.declared.script.pools.PoolStack.{PoolStack}
+use Rattle.trace_recordings.specs.declared.player.Note.{Note}
+use Rattle.trace_recordings.specs.declared.player.Note.TheVariants as notes
+use Rattle.trace_recordings.specs.declared.player.Handles.{Handles}
 use Rattle.trace_recordings.specs.declared.player.Player.{Player}
+use Rattle.trace_recordings.specs.declared.typed.Sample.{Sample}
 use Rattle.trace_recordings.specs.declared.player.PlayError.{PlayError}
 use Rattle.trace_recordings.specs.declared.player.PlayError.TheVariants as plays
 use Rattle.trace_recordings.specs.declared.script.fault.Fault.TheVariants as faults
+use Rattle.trace_recordings.specs.Samples.{entry_in, is_sample, slot_of}
 use Rattle.trace_recordings.specs.Scripts.{IsScript}
 
 -- the script is at fault, and not want of memory
@@ -35,6 +40,7 @@ abbrev pub IsOfScript : PlayError → Type 0
 IsOfScript (plays.Script error) = error.fault ≢ faults.Memory
 IsOfScript (plays.LeftOut line call) = ⊤
 IsOfScript (plays.Unknown line handle) = ⊤
+IsOfScript (plays.Unheld line) = ⊤
 IsOfScript (plays.Encoder error) = ⊥
 IsOfScript plays.Memory = ⊥
 
@@ -54,18 +60,23 @@ refusal_text errors.OutOfMemory = codes "refused 9 OutOfMemory"
 refusal_text (errors.Writer kind) = codes "refused 10 Writer"
 refusal_text errors.Failed = codes "refused 11 Failed"
 
+-- what a call of the encoder answered
+abbrev pub answer_text : Reply → List ℕ
+answer_text Done = codes "done"
+answer_text (WireId id) = codes "wire " ++ decimal id.0
+answer_text (Text id) = pool_text id.0
+answer_text (Stack id) = stack_text id.0
+answer_text (Refused e) = refusal_text e
+
 -- a reply, and `-` where the encoder was not called
-abbrev pub reply_text : Option Reply → List ℕ
-reply_text None = codes "-"
-reply_text (Some Done) = codes "done"
-reply_text (Some (WireId id)) = codes "wire " ++ decimal id.0
-reply_text (Some (Text id)) = pool_text id.0
-reply_text (Some (Stack id)) = stack_text id.0
-reply_text (Some (Refused e)) = refusal_text e
+abbrev pub reply_text : Note → List ℕ
+reply_text notes.Silent = codes "-"
+reply_text notes.Reset = codes "reset"
+reply_text (notes.Answered reply) = answer_text reply
 
 -- a reply, and how many bytes the encoder had written behind it
-unfoldable pub reply_line : Option Reply → ℕ → List ℕ
-reply_line reply count = reply_text reply ++ codes " bytes=" ++ decimal count ++ codes "\n"
+unfoldable pub reply_line : Note → ℕ → List ℕ
+reply_line note count = reply_text note ++ codes " bytes=" ++ decimal count ++ codes "\n"
 
 -- ---- what a call asks of an encoder
 
@@ -82,18 +93,23 @@ pool_text_of e = (e.id, e.bytes.items)
 abbrev pub pool_stack_of : PoolStack → ℕ × List ℕ
 pool_stack_of e = (e.id, e.frames.items)
 
--- the schemas of a script by their handles
-abbrev pub Schemas : Type 0
-Schemas = List (ℕ × schemas.Entry)
+-- what a script defined, by its handles
+pub record Defined : Type 0 where
+  pub schemas : List (ℕ × schemas.Entry)
+  pub types : List (ℕ × Sample)
 
--- the schema under a handle
-abbrev pub schema_under : Schemas → ℕ → Option schemas.Entry
-schema_under defined handle = lookup (is_at (nat_cmp handle)) defined
+abbrev pub defined_in : Handles → Defined
+defined_in h = record { schemas = h.schemas.entries; types = h.types.entries }
+
+-- what stands under a handle
+abbrev pub under : {A : Type 0} → List (ℕ × A) → ℕ → Option A
+under defined handle = lookup (is_at (nat_cmp handle)) defined
 
 -- what a call asks of an encoder, behind these definitions
-abbrev pub action_of : Schemas → Call → Option Action
-action_of defined (Register handle) = option_map (λ e. register e) (schema_under defined handle)
-action_of defined (Event handle time values) = option_map (λ e. write_event e time (views values.items)) (schema_under defined handle)
+abbrev pub action_of : Defined → Call → Option Action
+action_of defined (Register handle) = option_map (λ e. register e) (under defined.schemas handle)
+action_of defined (Event handle time values) = option_map (λ e. write_event e time (views values.items)) (under defined.schemas handle)
+action_of defined (WriteTyped handle time values) = option_map (λ s. write_type (slot_of s) (entry_in s) time (views values.items)) (under defined.types handle)
 action_of defined (InternString text) = Some (intern_string (string_bytes text))
 action_of defined (InternStack frames) = Some (intern_stack frames.items)
 action_of defined (StringPool entries) = Some (write_string_pool (map pool_text_of entries.items))
@@ -104,12 +120,14 @@ action_of defined other = None
 abbrev pub asks : Call → Bool
 asks Nothing = false
 asks (Define handle definition) = false
+asks (DefineType handle slot definition) = false
+asks Reset = false
 asks (Raw bytes) = false
 asks Bare = false
 asks call = true
 
 -- an encoder over a list of bytes gives this answer to what a call asks of it
-abbrev pub DoesCall : Schemas → EncoderView (Vec ℕ Global) → EncoderView (Vec ℕ Global) → Call → Reply → Type 0
+abbrev pub DoesCall : Defined → EncoderView (Vec ℕ Global) → EncoderView (Vec ℕ Global) → Call → Reply → Type 0
 DoesCall defined old new call reply = (action : Action) × (action_of defined call ≡ Some action) × Does (λ v. telling (Some v.items)) old action reply new
 
 -- ---- the turns of a script
@@ -117,24 +135,32 @@ DoesCall defined old new call reply = (action : Action) × (action_of defined ca
 -- what playing has come to: the state of the encoder, the definitions, the output and the lines of the replies
 pub record Playing : Type 0 where
   pub state : WriterState
-  pub defined : Schemas
+  pub defined : Defined
   pub bytes : List ℕ
   pub replies : List ℕ
 
 -- a new encoder, whose header stands in the output
 abbrev pub start : Playing
-start = record { state = fresh_state; defined = []; bytes = header; replies = [] }
+start = record { state = fresh_state; defined = record { schemas = []; types = [] }; bytes = header; replies = [] }
 
 abbrev pub playing_of : Player → Playing
-playing_of p = record { state = p.encoder.state; defined = p.schemas.entries; bytes = p.played.bytes.items; replies = string_bytes p.played.replies }
+playing_of p = record { state = p.encoder.state; defined = defined_in p.handles; bytes = p.played.bytes.items; replies = string_bytes p.played.replies }
 
 -- the line of a reply comes behind the others
-abbrev pub with_reply : Option Reply → Playing → Playing
-with_reply reply p = record p { replies = p.replies ++ reply_line reply p.state.count }
+abbrev pub with_reply : Note → Playing → Playing
+with_reply note p = record p { replies = p.replies ++ reply_line note p.state.count }
 
 -- the schema of a definition stands under its handle; one that stood there before goes
 abbrev pub with_schema : ℕ → Definition → Playing → Playing
-with_schema handle definition p = record p { defined = insert_entry nat_cmp p.defined handle (entry_of definition) }
+with_schema handle definition p = record p { defined = record p.defined { schemas = insert_entry nat_cmp p.defined.schemas handle (entry_of definition) } }
+
+-- a sample type stands under its handle; one that stood there before goes
+abbrev pub with_type : ℕ → Sample → Playing → Playing
+with_type handle sample p = record p { defined = record p.defined { types = insert_entry nat_cmp p.defined.types handle sample } }
+
+-- the sample type of this slot and this schema stands under the handle
+abbrev pub DefinesType : ℕ → ℕ → Definition → Playing → Playing → Type 0
+DefinesType handle slot definition p q = (sample : Sample) × (is_sample slot (entry_of definition) sample ≡ true) × (q ≡ with_type handle sample p)
 
 -- the encoder gives this answer to what a call asks of it, and what it sends comes behind the output
 pub record Asks (p : Playing) (call : Call) (reply : Reply) (q : Playing) : Type 0 where
@@ -146,14 +172,26 @@ pub record Asks (p : Playing) (call : Call) (reply : Reply) (q : Playing) : Type
 
 -- the encoder is asked, and its reply noted
 abbrev pub IsAsked : Playing → Call → Playing → Type 0
-IsAsked p call q = (reply : Reply) × (mid : Playing) × Asks p call reply mid × (q ≡ with_reply (Some reply) mid)
+IsAsked p call q = (reply : Reply) × (mid : Playing) × Asks p call reply mid × (q ≡ with_reply (notes.Answered reply) mid)
+
+-- a new trace begins behind the output with its header; or its writer failed, and all is as before
+abbrev pub Resets : Playing → Note → Playing → Type 0
+Resets p notes.Reset q = q ≡ record p { state = fresh_state; bytes = p.bytes ++ header }
+Resets p (notes.Answered (Refused (errors.Writer kind))) q = q ≡ p
+Resets p note q = ⊥
+
+-- a new trace is begun, and the reply noted
+abbrev pub IsReset : Playing → Playing → Type 0
+IsReset p q = (note : Note) × (mid : Playing) × Resets p note mid × (q ≡ with_reply note mid)
 
 -- a call of a script leads from p to q
 abbrev pub Turns : Playing → Call → Playing → Type 0
 Turns p Nothing q = q ≡ p
-Turns p (Define handle definition) q = q ≡ with_reply None (with_schema handle definition p)
-Turns p (Raw bytes) q = q ≡ with_reply None (record p { bytes = p.bytes ++ bytes.items })
-Turns p Bare q = q ≡ with_reply None (record p { bytes = [] })
+Turns p (Define handle definition) q = q ≡ with_reply notes.Silent (with_schema handle definition p)
+Turns p (DefineType handle slot definition) q = (mid : Playing) × DefinesType handle slot definition p mid × (q ≡ with_reply notes.Silent mid)
+Turns p (Raw bytes) q = q ≡ with_reply notes.Silent (record p { bytes = p.bytes ++ bytes.items })
+Turns p Bare q = q ≡ with_reply notes.Silent (record p { bytes = [] })
+Turns p Reset q = IsReset p q
 Turns p call q = IsAsked p call q
 
 -- calls lead from p to q, one after another
@@ -161,8 +199,10 @@ abbrev pub TurnsEach : Playing → List Call → Playing → Type 0
 TurnsEach p [] q = q ≡ p
 TurnsEach p (call ∷ calls) q = (mid : Playing) × Turns p call mid × TurnsEach mid calls q
 
--- the call puts nothing past the encoder, and takes nothing away
+-- the call puts nothing past the encoder, takes nothing away, and begins no trace
 abbrev pub IsOfEncoder : Call → Type 0
+IsOfEncoder Reset = ⊥
+IsOfEncoder Resume = ⊥
 IsOfEncoder (Raw bytes) = ⊥
 IsOfEncoder Bare = ⊥
 IsOfEncoder call = Unit {0}

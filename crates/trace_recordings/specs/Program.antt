@@ -1,5 +1,5 @@
 -- What the program that replays is asked for, and what it answers.
-use Rattle.std.specs.Prelude.{◌≡◌, ◌≢◌, ◌↔◌, ℕ, Bool, if◌then◌else◌, List, [], ◌∷◌, Result, Ok, Err, String, codes, string_bytes}
+use Rattle.std.specs.Prelude.{◌≡◌, ◌≢◌, ◌≤◌, ◌↔◌, ℕ, Bool, if◌then◌else◌, List, [], ◌∷◌, Result, Ok, Err, String, codes, string_bytes}
 use Rattle.std.specs.declared.alloc.Global.{Global}
 use Rattle.trace_recordings.specs.declared.player.Played.{Played}
 use Rattle.trace_recordings.specs.declared.player.PlayError.{PlayError}
@@ -22,4 +22,4 @@ status_with status differs = if differs then 1 else status
 -- where the script is at fault, and with 1 where it is not
 abbrev pub Answers : Result Played PlayError → Answer → Type 0
 Answers (Ok played) answer = (answer.status ≡ 0) × (answer.output.items ≡ played.bytes.items) × (string_bytes answer.notes ≡ string_bytes played.replies)
-Answers (Err error) answer = (answer.output.items ≡ []) × ((answer.status ≡ 2) ↔ IsOfScript error) × ((answer.status ≡ 1) ↔ (IsOfScript error → ⊥))
+Answers (Err error) answer = (answer.output.items ≡ []) × ((answer.status ≡ 2) ↔ IsOfScript error) × ((answer.status ≡ 1) ↔ (IsOfScript error → ⊥)) × (answer.status ≤ 2)

@@ -1,5 +1,5 @@
 -- How the calls of a script stand in its lines.
-use Rattle.std.specs.Prelude.{◌≡◌, ◌⊎◌, ℕ, ◌-◌, ◌==◌, Bool, true, List, [], ◌∷◌, ◌++◌, length, slice_get, Option, Some, None, Ok, codes, decimal, string_bytes}
+use Rattle.std.specs.Prelude.{◌≡◌, ◌≢◌, ◌⊎◌, ⊤, ℕ, ◌-◌, ◌==◌, Bool, true, List, [], ◌∷◌, ◌++◌, length, slice_get, Option, Some, None, Ok, codes, decimal, string_bytes}
 use Rattle.std.specs.List.{flat_map, slice_split}
 use Rattle.hex.specs.Hex.{decode_of}
 use Rattle.trace_values.specs.Values.{Value}
@@ -7,6 +7,8 @@ use Rattle.trace_values.specs.View.{views}
 use Rattle.trace_lines.specs.Lines.{quoted, address_list, spaced_value}
 use Rattle.trace_recordings.specs.declared.script.call.Call.{Call}
 use Rattle.trace_recordings.specs.declared.script.call.Call.TheVariants.{Nothing, Define, Register, Event, DefineType, WriteTyped, InternString, InternStack, StringPool, StackPool, Reset, Resume, Raw, Bare}
+use Rattle.trace_recordings.specs.declared.script.ScriptError.{ScriptError}
+use Rattle.trace_recordings.specs.declared.script.fault.Fault.TheVariants.{Memory}
 use Rattle.trace_recordings.specs.Definitions.{definition_text}
 use Rattle.trace_recordings.specs.Tallies.{counted_on}
 use Rattle.trace_recordings.specs.Pools.{pool_text_text, pool_stack_text}
@@ -79,15 +81,29 @@ lines_of text = slice_split (λ b. b == 10) text
 unfoldable pub IsScript : List Call → List ℕ → Type 0
 IsScript calls text = SayEach (lines_of text) calls
 
--- The lines before this one say calls, and this one cannot be read. Lines count from 1.
-pub record IsBrokenAt (text : List ℕ) (line : ℕ) : Type 0 where
+-- the call is one word, or nothing
+abbrev pub IsWord : Call → Type 0
+IsWord Nothing = ⊤
+IsWord Reset = ⊤
+IsWord Resume = ⊤
+IsWord Bare = ⊤
+IsWord call = ⊥
+
+-- the line is not silent, and no call of one word
+abbrev pub SaysNoWord : List ℕ → Type 0
+SaysNoWord line = (call : Call) → IsWord call → Says call line → ⊥
+
+-- The lines before that of the error say calls. Reading stopped at its line, which is not silent and no call of one word, where
+-- memory was not the fault. Lines count from 1.
+pub record IsBrokenAt (text : List ℕ) (error : ScriptError) : Type 0 where
   pub before : List (List ℕ)
   pub calls : List Call
   pub said : SayEach before calls
   pub broken : List ℕ
   pub after : List (List ℕ)
   pub parts : lines_of text ≡ before ++ broken ∷ after
-  pub counts : line ≡ counted_on (length before) 1
+  pub unsaid : error.fault ≢ Memory → SaysNoWord broken
+  pub counts : error.line ≡ counted_on (length before) 1
 
 -- the last byte of the line is a carriage return
 abbrev pub EndsWithReturn : List ℕ → Type 0

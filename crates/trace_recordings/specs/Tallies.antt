@@ -1,6 +1,7 @@
 -- What is counted.
 use Rattle.std.specs.Prelude.{ℕ, ◌+◌, ◌-◌, ◌^◌, Bool, List, [], ◌∷◌, length, map, min, nat_eq, if◌then◌else◌}
 use Rattle.std.specs.Cmp.Lexicographic.{pointwise}
+use Rattle.trace_recordings.specs.declared.findings.Findings.{Findings}
 use Rattle.trace_recordings.specs.declared.findings.Outcome.{Outcome}
 use Rattle.trace_recordings.specs.declared.findings.Outcome.TheVariants.{Absent, LeftOut, Compared}
 use Rattle.trace_recordings.specs.declared.tally.Parts.{Parts}
@@ -42,3 +43,7 @@ abbrev pub with_outcome : Outcome → Seen → Seen
 with_outcome Absent s = s
 with_outcome (LeftOut name) s = record s { left_out = with_name name.now s.left_out }
 with_outcome (Compared notes) s = record s { compared = counted_on s.compared 1; differences = counted_on s.differences (length notes.items) }
+
+-- with what became of the other readings
+abbrev pub with_readings : Findings → Seen → Seen
+with_readings f s = with_outcome f.sink (with_outcome f.resolved (with_outcome f.borrowed s))

@@ -1,12 +1,12 @@
 //! What a recording shows of the library.
 
-ghost use Rattle.std.specs.Prelude.{◌≡◌, ◌↔◌, [], IfOk, string_bytes};
+ghost use Rattle.std.specs.Prelude.{◌≡◌, ◌↔◌, [], false, IfOk, codes, is_some, string_bytes};
 ghost use Rattle.trace_recordings.specs.Comparisons.{ended};
-ghost use Rattle.trace_recordings.specs.Findings.{IsUnread, ShowsDump, ShowsScript, ShowsUnread, WhereRead};
+ghost use Rattle.trace_recordings.specs.Findings.{has_borrowed, IsUnread, LeavesPart, ShowsDump, ShowsResolved, ShowsScript, ShowsUnread, WhereRead};
 
 use crate::compare::{bytes_difference, lines_difference};
 use crate::player::{PlayError, Played, play};
-use crate::recording::{Calls, Recording};
+use crate::recording::{Calls, Readings, Recording};
 use hex::FromHexError;
 use std::alloc::{AllocError, Global};
 use trace_lines::dump::{FAILED, dump};
@@ -27,26 +27,77 @@ pub enum Outcome {
 pub struct Findings {
     pub script: Outcome,
     pub dump: Outcome,
+    /// The dump of the borrowed reader, where it is another.
+    pub borrowed: Outcome,
+    /// The dump with resolved events.
+    pub resolved: Outcome,
+    /// What a sink is given.
+    pub sink: Outcome,
 }
 
-/// Plays the script of a recording and dumps its trace, and compares what comes of both with the recording.
+/// Plays the script of a recording and dumps its trace, as it is and with resolved events, and compares what comes of it with the
+/// recording. There is nothing yet to compare the other parts with.
 pub fn findings_of(alloc: Global, recording: Recording<'_>) -> Result<Findings, AllocError>
     ensures script { IfOk result (λ findings. WhereRead recording.entry (λ trace. ShowsScript trace recording.entry.calls findings.script)) }
-    ensures dump { IfOk result (λ findings. WhereRead recording.entry (λ trace. ShowsDump trace recording.entry.dump.now findings.dump)) }
-    ensures unread { IfOk result (λ findings. IsUnread recording.entry → ShowsUnread findings.script findings.dump) }
+    ensures dump { IfOk result (λ findings. WhereRead recording.entry (λ trace. ShowsDump false trace recording.entry.dump.now findings.dump)) }
+    ensures resolved { IfOk result (λ findings. WhereRead recording.entry (λ trace. ShowsResolved trace recording.entry.readings findings.resolved)) }
+    ensures unread { IfOk result (λ findings. IsUnread recording.entry → ShowsUnread findings.script findings.dump findings.resolved) }
+    ensures borrowed { IfOk result (λ findings. LeavesPart (has_borrowed recording.entry.readings) (codes "borrowed") findings.borrowed) }
+    ensures sink { IfOk result (λ findings. LeavesPart (is_some recording.entry.readings) (codes "sink") findings.sink) }
+{
+    let (script, dump, resolved) = outcomes_of(alloc, recording)?;
+    let read = recording.readings.is_some();
+    Ok(Findings {
+        script,
+        dump,
+        borrowed: left_out(borrowed_differs(recording.readings), "borrowed"),
+        resolved,
+        sink: left_out(read, "sink"),
+    })
+}
+
+// Whether the dump of the borrowed reader is another.
+fn borrowed_differs(readings: Option<Readings<'_>>) -> bool
+    ensures { result ≡ has_borrowed readings.entry }
+{
+    match readings {
+        Some(readings) => readings.borrowed.is_some(),
+        None => false,
+    }
+}
+
+// A part is left out, where it is there.
+fn left_out(there: bool, name: &'static str) -> Outcome
+    ensures { LeavesPart there name.now result }
+{
+    if there {
+        Outcome::LeftOut(name)
+    } else {
+        Outcome::Absent
+    }
+}
+
+// What becomes of the script and of the dumps.
+fn outcomes_of(
+    alloc: Global,
+    recording: Recording<'_>,
+) -> Result<(Outcome, Outcome, Outcome), AllocError>
+    ensures script { IfOk result (λ x. WhereRead recording.entry (λ trace. ShowsScript trace recording.entry.calls x.0)) }
+    ensures dump { IfOk result (λ x. WhereRead recording.entry (λ trace. ShowsDump false trace recording.entry.dump.now x.1)) }
+    ensures resolved { IfOk result (λ x. WhereRead recording.entry (λ trace. ShowsResolved trace recording.entry.readings x.2)) }
+    ensures unread { IfOk result (λ x. IsUnread recording.entry → ShowsUnread x.0 x.1 x.2) }
 {
     match hex::decode(alloc, recording.bytes) {
-        Ok(trace) => Ok(Findings {
-            script: script_outcome(alloc, recording.calls, &trace)?,
-            dump: dump_outcome(alloc, recording.dump, &trace)?,
-        }),
+        Ok(trace) => Ok((
+            script_outcome(alloc, recording.calls, &trace)?,
+            dump_outcome(alloc, recording.dump, &trace, false)?,
+            resolved_outcome(alloc, recording.readings, &trace)?,
+        )),
         Err(FromHexError::OutOfMemory) => Err(AllocError),
         Err(error) => {
             let note = format!(in alloc; "the recorded bytes cannot be read: {error}")?;
-            Ok(Findings {
-                script: Outcome::Absent,
-                dump: Outcome::Compared(vec![in alloc; note]?),
-            })
+            let notes = vec![in alloc; note]?;
+            Ok((Outcome::Absent, Outcome::Compared(notes), Outcome::Absent))
         }
     }
 }
@@ -96,25 +147,58 @@ fn played_differences(
     Ok(differences)
 }
 
+// Dumps a trace with resolved events, where its lines were recorded.
+fn resolved_outcome(
+    alloc: Global,
+    readings: Option<Readings<'_>>,
+    trace: &[u8],
+) -> Result<Outcome, AllocError>
+    ensures { IfOk result (ShowsResolved trace.now readings.entry) }
+{
+    match readings {
+        Some(readings) => dump_outcome(alloc, readings.resolved, trace, true),
+        None => Ok(Outcome::Absent),
+    }
+}
+
 // Dumps a trace, and compares the lines, whose last one tells the status. A vector as a writer wants nothing but memory.
-fn dump_outcome(alloc: Global, lines: &str, trace: &[u8]) -> Result<Outcome, AllocError>
-    ensures { IfOk result (ShowsDump trace.now lines.now) }
+fn dump_outcome(
+    alloc: Global,
+    lines: &str,
+    trace: &[u8],
+    resolve: bool,
+) -> Result<Outcome, AllocError>
+    ensures { IfOk result (ShowsDump resolve trace.now lines.now) }
 {
     let mut found = Vec::new(alloc);
-    if dump(alloc, trace, &mut found) == FAILED {
+    if dump(alloc, trace, &mut found, resolve) == FAILED {
         return Err(AllocError);
     }
-    let notes = dump_differences(alloc, lines, &found)?;
+    let notes = dump_differences(alloc, dump_name(resolve), lines, &found)?;
     Ok(Outcome::Compared(notes))
 }
 
+// By what name to speak of a dump.
+fn dump_name(resolve: bool) -> &'static str {
+    if resolve {
+        "the resolved dump"
+    } else {
+        "the dump"
+    }
+}
+
 // Compares the lines of a dump.
-fn dump_differences(alloc: Global, lines: &str, found: &[u8]) -> Result<Vec<String>, AllocError>
+fn dump_differences(
+    alloc: Global,
+    name: &str,
+    lines: &str,
+    found: &[u8],
+) -> Result<Vec<String>, AllocError>
     ensures { IfOk result (λ notes. (notes.items ≡ []) ↔ (ended lines.now ≡ found.now)) }
 {
     let mut differences = Vec::new(alloc);
     if let Some(note) = lines_difference(alloc, lines, found)? {
-        differences.push(format!(in alloc; "the dump differs: {note}")?)?;
+        differences.push(format!(in alloc; "{name} differs: {note}")?)?;
     }
     Ok(differences)
 }

@@ -8,3 +8,4 @@ pub mod program;
 mod recording;
 mod script;
 mod tally;
+mod typed;

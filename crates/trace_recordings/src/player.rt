@@ -1,14 +1,16 @@
 //! Plays the calls of a script on an encoder.
 
-ghost use Rattle.std.specs.Prelude.{◌≡◌, ◌↔◌, ◌++◌, map, true, None, IsTrue, IfOk, IfErr, OnOk, string_bytes};
+ghost use Rattle.std.specs.Prelude.{◌≡◌, ◌↔◌, ◌++◌, map, true, false, None, IsTrue, IfOk, IfErr, IfSome, is_none, OnOk, string_bytes};
 ghost use Rattle.std.specs.List.{AllByRecursion};
 ghost use Rattle.trace_wire.specs.PoolEntries.{string_entries_of, stack_entries_of};
 ghost use Rattle.trace_writer.specs.Calls.{reply_from};
 ghost use Rattle.trace_recordings.specs.declared.player.PlayError.TheVariants as errors;
-ghost use Rattle.trace_recordings.specs.Playing.{IsOfScript, IsPlayed, Asks, DoesCall, Turns, asks, entry_of, pool_stack_of, pool_text_of, playing_of, refusal_text, reply_line, schema_under, start, with_reply, with_schema};
-ghost use Rattle.trace_recordings.specs.Refusals.{IsHad, IsOfPlayer, LeavesOut, Refuses, RefusesCall, RefusesUnder, misses};
+ghost use Rattle.trace_recordings.specs.Playing.{DefinesType, IsOfScript, IsPlayed, Asks, DoesCall, Resets, Turns, answer_text, asks, defined_in, entry_of, under, pool_stack_of, pool_text_of, playing_of, refusal_text, reply_line, start, with_reply, with_schema};
+ghost use Rattle.trace_recordings.specs.Samples.{is_sample, place_of};
+ghost use Rattle.trace_recordings.specs.Refusals.{IsHad, IsOfPlayer, IsUnheld, LacksType, LeavesOut, MissesAt, Refuses, RefusesCall, RefusesUnder, misses};
 
 use crate::script::{Call, Definition, Fault, PoolStack, PoolText, ScriptError, script_of};
+use crate::typed::{Sample, Unheld, sample_in, write_sample};
 use std::alloc::{AllocError, AllocFailed, Global};
 use std::collections::BTreeMap;
 use thiserror::Error;
@@ -36,6 +38,8 @@ pub enum PlayError {
     LeftOut { line: usize, call: &'static str },
     #[error("line {line}: no schema has the handle {handle}")]
     Unknown { line: usize, handle: u64 },
+    #[error("line {line}: the type has no event of these values")]
+    Unheld { line: usize },
     #[error("no encoder: {0}")]
     Encoder(EncodeError),
     #[error("out of memory")]
@@ -49,7 +53,8 @@ impl PlayError {
     {
         match self {
             PlayError::Script(error) => error.fault != Fault::Memory,
-            PlayError::LeftOut { .. } | PlayError::Unknown { .. } => true,
+            PlayError::LeftOut { .. } | PlayError::Unknown { .. } | PlayError::Unheld { .. } =>
+                true,
             PlayError::Encoder(_) | PlayError::Memory => false,
         }
     }
@@ -86,7 +91,7 @@ pub fn play(alloc: Global, text: &[u8]) -> Result<Played, PlayError>
     ensures refused { IfErr result (Refuses text.now) }
 {
     let script = script_of(alloc, text)?;
-    admit(&script)?;
+    admit(alloc, &script)?;
     // How a reader takes the output.
     fresh_headline();
     let mut player = Player::new(alloc)?;
@@ -97,29 +102,74 @@ pub fn play(alloc: Global, text: &[u8]) -> Result<Played, PlayError>
 }
 
 // Refuses a script with a call that the library has not, by the first of them.
-fn admit(script: &[Call]) -> Result<(), PlayError>
+fn admit(alloc: Global, script: &[Call]) -> Result<(), PlayError>
     ensures admitted { OnOk result (AllByRecursion IsHad script.now) }
     ensures refused { IfErr result (LeavesOut script.now) }
 {
     for (before, call) in script.iter().enumerate() {
-        if is_missing(call) {
-            return Err(PlayError::LeftOut {
-                line: before.saturating_add(1),
-                call: call.name(),
-            });
-        }
+        admit_call(alloc, before.saturating_add(1), call)?;
+    }
+    Ok(())
+}
+
+// Refuses the call of a line that the library has not.
+fn admit_call(alloc: Global, line: usize, call: &Call) -> Result<(), PlayError>
+    ensures admitted { OnOk result (misses call.now ≡ false) }
+    ensures refused { IfErr result (MissesAt line call.now) }
+{
+    if is_missing(alloc, call)? {
+        return Err(PlayError::LeftOut {
+            line,
+            call: call.name(),
+        });
     }
     Ok(())
 }
 
 // Whether the library has not the call.
-fn is_missing(call: &Call) -> bool
-    ensures { result ≡ misses call.now }
+fn is_missing(alloc: Global, call: &Call) -> Result<bool, AllocError>
+    ensures { IfOk result (λ missing. missing ≡ misses call.now) }
 {
-    matches!(
-        call,
-        Call::DefineType { .. } | Call::WriteTyped { .. } | Call::Reset | Call::Resume
-    )
+    match call {
+        Call::DefineType {
+            slot,
+            definition,
+            ..
+        } => Ok(sample_of(alloc, *slot, definition)?.is_none()),
+        Call::Resume => Ok(true),
+        _ => Ok(false),
+    }
+}
+
+// The sample type that a definition says.
+fn sample_of(
+    alloc: Global,
+    slot: u64,
+    definition: &Definition,
+) -> Result<Option<Sample>, AllocError>
+    ensures found { IfOk result (λ found. IfSome found (λ sample. is_sample slot (entry_of definition.now) sample ≡ true)) }
+    ensures none { IfOk result (λ found. is_none found ≡ is_none (place_of slot (entry_of definition.now))) }
+{
+    let schema = schema_of(alloc, definition)?;
+    Ok(sample_in(slot, schema.entry()))
+}
+
+// What is noted of a line.
+#[derive(Drop)]
+enum Note {
+    // The encoder was not called.
+    Silent,
+    // What a call of the encoder answered.
+    Answered(Reply),
+    // A new trace was begun.
+    Reset,
+}
+
+// What a script defined, by its handles.
+#[derive(Drop)]
+struct Handles {
+    schemas: BTreeMap<u64, Schema>,
+    types: BTreeMap<u64, Sample>,
 }
 
 // An encoder and what it made: the output holds what the encoder's writer accepted, and what a script put in past it.
@@ -127,8 +177,7 @@ fn is_missing(call: &Call) -> bool
 struct Player {
     alloc: Global,
     encoder: Encoder,
-    // The schemas by their handles.
-    schemas: BTreeMap<u64, Schema>,
+    handles: Handles,
     played: Played,
 }
 
@@ -142,7 +191,10 @@ impl Player {
         Ok(Player {
             alloc,
             encoder,
-            schemas: BTreeMap::new(alloc),
+            handles: Handles {
+                schemas: BTreeMap::new(alloc),
+                types: BTreeMap::new(alloc),
+            },
             played: Played {
                 bytes,
                 replies: String::new(alloc),
@@ -151,6 +203,7 @@ impl Player {
     }
 
     // Makes the call of a line, and notes its reply.
+    #[tactic(auto, using(crate::proofs::RefusalLemmas::lacks_type))]
     fn make(&mut self, line: usize, call: &Call) -> Result<(), PlayError>
         ensures turns { OnOk result (Turns (playing_of self.old) call.now (playing_of self.new)) }
         ensures refused { IfErr result (RefusesCall (playing_of self.old) line call.now) }
@@ -159,30 +212,42 @@ impl Player {
             Call::Nothing => Ok(()),
             Call::Define { handle, definition } => {
                 self.define(*handle, definition)?;
-                self.note(None)
+                self.note(Note::Silent)
+            }
+            Call::DefineType {
+                handle,
+                slot,
+                definition,
+            } => {
+                self.define_type(line, *handle, *slot, definition)?;
+                self.note(Note::Silent)
             }
             Call::Raw { bytes } => {
                 self.played.bytes.extend_from_slice(bytes)?;
-                self.note(None)
+                self.note(Note::Silent)
             }
             Call::Bare => {
                 self.played.bytes.clear();
-                self.note(None)
+                self.note(Note::Silent)
+            }
+            Call::Reset => {
+                let note = self.reset()?;
+                self.note(note)
             }
             other => {
                 let reply = self.ask(line, other)?;
-                self.note(Some(reply))
+                self.note(Note::Answered(reply))
             }
         }
     }
 
     // Appends the line of a reply to the others.
-    fn note(&mut self, reply: Option<Reply>) -> Result<(), PlayError>
-        ensures noted { OnOk result (playing_of self.new ≡ with_reply reply (playing_of self.old)) }
+    fn note(&mut self, note: Note) -> Result<(), PlayError>
+        ensures noted { OnOk result (playing_of self.new ≡ with_reply note (playing_of self.old)) }
         ensures refused { IfErr result IsOfPlayer }
     {
         let written = self.encoder.bytes_written();
-        push_reply(&mut self.played.replies, reply, written)?;
+        push_reply(&mut self.played.replies, note, written)?;
         Ok(())
     }
 
@@ -192,8 +257,42 @@ impl Player {
         ensures refused { IfErr result IsOfPlayer }
     {
         let schema = schema_of(self.alloc, definition)?;
-        self.schemas.insert(handle, schema)?;
+        self.handles.schemas.insert(handle, schema)?;
         Ok(())
+    }
+
+    // Keeps the sample type that a definition says, in the place of one with the same handle.
+    fn define_type(
+        &mut self,
+        line: usize,
+        handle: u64,
+        slot: u64,
+        definition: &Definition,
+    ) -> Result<(), PlayError>
+        ensures defined { OnOk result (DefinesType handle slot definition.now (playing_of self.old) (playing_of self.new)) }
+        ensures refused { IfErr result (LacksType line slot definition.now) }
+    {
+        let Some(sample) = sample_of(self.alloc, slot, definition)? else {
+            return Err(PlayError::LeftOut { line, call: "type" });
+        };
+        self.handles.types.insert(handle, sample)?;
+        Ok(())
+    }
+
+    // Begins a new trace, whose header it appends to the output.
+    fn reset(&mut self) -> Result<Note, PlayError>
+        ensures resets { IfOk result (λ note. Resets (playing_of self.old) note (playing_of self.new)) }
+        ensures refused { IfErr result IsOfPlayer }
+    {
+        match self.encoder.reset_to(Vec::new(self.alloc)) {
+            Ok(_) => {
+                self.played
+                    .bytes
+                    .extend_from_slice(self.encoder.as_inner())?;
+                Ok(Note::Reset)
+            }
+            Err(error) => Ok(Note::Answered(Reply::Refused(error))),
+        }
     }
 
     // Makes a call of the encoder, and appends what it sent to the output.
@@ -203,7 +302,7 @@ impl Player {
         ensures refused { IfErr result (RefusesCall (playing_of self.old) line call.now) }
     {
         let before = self.encoder.as_inner().len();
-        let reply = reply_of(self.alloc, &mut self.encoder, &self.schemas, line, call)?;
+        let reply = reply_of(self.alloc, &mut self.encoder, &self.handles, line, call)?;
         let sent = &self.encoder.as_inner()[before..];
         self.played.bytes.extend_from_slice(sent)?;
         Ok(reply)
@@ -215,7 +314,7 @@ impl Player {
         let Player {
             alloc: _,
             encoder: _,
-            schemas: _,
+            handles: _,
             played,
         } = self;
         played
@@ -223,20 +322,21 @@ impl Player {
 }
 
 // Makes the call of a line on an encoder.
+#[tactic(auto, using(crate::proofs::RefusalLemmas::unheld))]
 fn reply_of(
     alloc: Global,
     encoder: &mut Encoder,
-    schemas: &BTreeMap<u64, Schema>,
+    handles: &Handles,
     line: usize,
     call: &Call,
 ) -> Result<Reply, PlayError>
     requires { asks call.now ≡ true }
-    ensures does { IfOk result (DoesCall schemas.now.entries encoder.old encoder.new call.now) }
-    ensures refused { IfErr result (RefusesUnder schemas.now.entries line call.now) }
+    ensures does { IfOk result (DoesCall (defined_in handles.now) encoder.old encoder.new call.now) }
+    ensures refused { IfErr result (RefusesUnder (defined_in handles.now) line call.now) }
 {
     match call {
         Call::Register { handle } => {
-            let schema = schema_at(schemas, line, *handle)?;
+            let schema = schema_at(&handles.schemas, line, *handle)?;
             Ok(match encoder.register_existing(schema) {
                 Ok(id) => Reply::WireId(id),
                 Err(error) => Reply::Refused(error),
@@ -247,8 +347,19 @@ fn reply_of(
             time,
             values,
         } => {
-            let schema = schema_at(schemas, line, *handle)?;
+            let schema = schema_at(&handles.schemas, line, *handle)?;
             Ok(done(encoder.write_event(schema, *time, values)))
+        }
+        Call::WriteTyped {
+            handle,
+            time,
+            values,
+        } => {
+            let sample = sample_at(&handles.types, line, *handle)?;
+            match write_sample(alloc, encoder, sample, *time, values) {
+                Ok(reply) => Ok(reply),
+                Err(unheld) => Err(unheld_at(line, unheld)),
+            }
         }
         Call::InternString { text } => Ok(match encoder.intern_string(text) {
             Ok(id) => Reply::Text(id),
@@ -274,7 +385,7 @@ fn reply_of(
 }
 
 // The reply of a call that answers nothing else.
-fn done(answer: Result<(), EncodeError>) -> Reply
+pub fn done(answer: Result<(), EncodeError>) -> Reply
     ensures { result ≡ reply_from (λ _. Reply.Done) answer }
 {
     match answer {
@@ -335,8 +446,8 @@ fn schema_at(
     line: usize,
     handle: u64,
 ) -> Result<&Schema, PlayError>
-    ensures found { IfOk result (λ schema. schema_under schemas.now.entries handle ≡ Some schema.now) }
-    ensures unknown { IfErr result (λ e. (e ≡ errors.Unknown line handle) × (schema_under schemas.now.entries handle ≡ None)) }
+    ensures found { IfOk result (λ schema. under schemas.now.entries handle ≡ Some schema.now) }
+    ensures unknown { IfErr result (λ e. (e ≡ errors.Unknown line handle) × (under schemas.now.entries handle ≡ None)) }
 {
     match schemas.get(&handle) {
         Some(schema) => Ok(schema),
@@ -344,23 +455,54 @@ fn schema_at(
     }
 }
 
+// The sample type that was defined last under a handle.
+fn sample_at(types: &BTreeMap<u64, Sample>, line: usize, handle: u64) -> Result<Sample, PlayError>
+    ensures found { IfOk result (λ sample. under types.now.entries handle ≡ Some sample) }
+    ensures unknown { IfErr result (λ e. (e ≡ errors.Unknown line handle) × (under types.now.entries handle ≡ None)) }
+{
+    match types.get(&handle) {
+        Some(sample) => Ok(*sample),
+        None => Err(PlayError::Unknown { line, handle }),
+    }
+}
+
+// The fault of a line whose values no event has.
+fn unheld_at(line: usize, unheld: Unheld) -> PlayError
+    ensures { IsUnheld line result }
+{
+    match unheld {
+        Unheld::Unfit => PlayError::Unheld { line },
+        Unheld::Memory => PlayError::Memory,
+    }
+}
+
 // Appends the line of a reply, `-` where the encoder was not called.
 #[tactic(auto, unfolding(crate::specs::Playing::reply_line))]
-fn push_reply(out: &mut String, reply: Option<Reply>, written: u64) -> Result<(), AllocError>
-    ensures { OnOk result (string_bytes out.new ≡ string_bytes out.old ++ reply_line reply written) }
+fn push_reply(out: &mut String, note: Note, written: u64) -> Result<(), AllocError>
+    ensures { OnOk result (string_bytes out.new ≡ string_bytes out.old ++ reply_line note written) }
 {
-    match reply {
-        None => out.push_str("-")?,
-        Some(Reply::Done) => out.push_str("done")?,
-        Some(Reply::WireId(id)) => {
-            let id = id.0;
-            write!(out, "wire {id}")?;
-        }
-        Some(Reply::Text(id)) => write!(out, "{id:?}")?,
-        Some(Reply::Stack(id)) => write!(out, "{id:?}")?,
-        Some(Reply::Refused(error)) => push_refusal(out, error)?,
+    match note {
+        Note::Silent => out.push_str("-")?,
+        Note::Reset => out.push_str("reset")?,
+        Note::Answered(reply) => push_answer(out, reply)?,
     }
     writeln!(out, " bytes={written}")
+}
+
+// Appends what a call of the encoder answered.
+fn push_answer(out: &mut String, reply: Reply) -> Result<(), AllocError>
+    ensures { OnOk result (string_bytes out.new ≡ string_bytes out.old ++ answer_text reply) }
+{
+    match reply {
+        Reply::Done => out.push_str("done"),
+        Reply::WireId(id) => {
+            let id = id.0;
+            write!(out, "wire {id}")
+        }
+        Reply::Text(id) => write!(out, "{id:?}"),
+        Reply::Stack(id) => write!(out, "{id:?}"),
+        Reply::Refused(error) => push_refusal(out, error),
+    }
 }
 
 // Appends a refusal: its number and name, and the field of a misfit.

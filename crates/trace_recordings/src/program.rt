@@ -1,6 +1,7 @@
 //! The program `trace_replay` (docs/RECORDINGS.md). Programs call `run`, which decides nothing by itself.
 
-ghost use Rattle.std.specs.Prelude.{◌≡◌, IfOk, string_bytes};
+ghost use Rattle.std.specs.Prelude.{◌≡◌, ◌≤◌, IfOk, string_bytes};
+ghost use Rattle.std.specs.Process.{exit_status};
 ghost use Rattle.trace_recordings.specs.Program.{AsksFor, Answers, status_with};
 
 use crate::findings::{Outcome, findings_of};
@@ -22,7 +23,7 @@ pub const BAD: u8 = 1;
 pub const UNREADABLE: u8 = 2;
 
 // The sets of recordings. Each is a file of that name, with `.txt` after it.
-const SETS: [&str; 3] = ["public", "malformed", "model"];
+const SETS: [&str; 4] = ["public", "malformed", "model", "types"];
 
 /// What a program is asked for.
 #[derive(Clone, Copy, PartialEq, Eq)]
@@ -43,8 +44,10 @@ pub struct Answer {
     pub notes: String,
 }
 
-/// Runs the program, and answers the status with which it ends.
-pub fn run(rt: &(impl AllocGlobal + Env + Files + Input + Print + Eprint)) -> ExitCode {
+/// Runs the program, and answers the status with which it ends: `GOOD`, `BAD` or `UNREADABLE`.
+pub fn run(rt: &(impl AllocGlobal + Env + Files + Input + Print + Eprint)) -> ExitCode
+    ensures { exit_status result ≤ UNREADABLE }
+{
     match status_of_run(rt) {
         Ok(status) => ExitCode::from(status),
         Err(error) => {
@@ -56,7 +59,9 @@ pub fn run(rt: &(impl AllocGlobal + Env + Files + Input + Print + Eprint)) -> Ex
 
 fn status_of_run(
     rt: &(impl AllocGlobal + Env + Files + Input + Print + Eprint),
-) -> anyhow::Result<u8> {
+) -> anyhow::Result<u8>
+    ensures { IfOk result (λ status. status ≤ UNREADABLE) }
+{
     match task_of_arguments(rt)? {
         Task::ReplaySets => replay_sets(rt),
         Task::PlayInput => play_input(rt),
@@ -89,7 +94,9 @@ pub fn task_of(words: &[String]) -> Task
 }
 
 // Compares each set of recordings with what the library makes of it.
-fn replay_sets(rt: &(impl AllocGlobal + Files + Print)) -> anyhow::Result<u8> {
+fn replay_sets(rt: &(impl AllocGlobal + Files + Print)) -> anyhow::Result<u8>
+    ensures { IfOk result (λ status. status ≤ BAD) }
+{
     let mut status = GOOD;
     for set in SETS {
         status = with_set(status, replay_set(rt, set)?);
@@ -115,6 +122,9 @@ fn replay_set(rt: &(impl AllocGlobal + Files + Print), set: &str) -> anyhow::Res
         let findings = findings_of(alloc, *recording)?;
         print_differences(rt, set, recording.name, &findings.script)?;
         print_differences(rt, set, recording.name, &findings.dump)?;
+        print_differences(rt, set, recording.name, &findings.borrowed)?;
+        print_differences(rt, set, recording.name, &findings.resolved)?;
+        print_differences(rt, set, recording.name, &findings.sink)?;
         tally.add(&findings)?;
     }
     println!(rt; "{set}: {tally}")?;
@@ -132,7 +142,9 @@ fn print_differences(rt: &impl Print, set: &str, name: &str, outcome: &Outcome) 
 }
 
 // Plays the script on standard input, writes the trace to standard output and the replies to standard error.
-fn play_input(rt: &(impl AllocGlobal + Input + Print + Eprint)) -> anyhow::Result<u8> {
+fn play_input(rt: &(impl AllocGlobal + Input + Print + Eprint)) -> anyhow::Result<u8>
+    ensures { IfOk result (λ status. status ≤ UNREADABLE) }
+{
     let alloc = rt.alloc();
     let mut text = Vec::new(alloc);
     rt.reader().read_to_end(&mut text)?;

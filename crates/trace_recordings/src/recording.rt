@@ -1,9 +1,9 @@
 //! Packed recordings of traces (docs/RECORDINGS.md, "The files").
 
-ghost use Rattle.std.specs.Prelude.{◌≡◌, ◌<◌, List, ℕ, ◌++◌, length, IfOk, IfSome, codes};
+ghost use Rattle.std.specs.Prelude.{◌≡◌, ◌≢◌, ◌<◌, false, get_or, List, ℕ, ◌++◌, length, IfOk, IfSome, codes};
 ghost use Rattle.std.specs.List.{flat_map};
 ghost use Rattle.trace_recordings.specs.declared.recording.RecordingError.TheVariants as errors;
-ghost use Rattle.trace_recordings.specs.Recordings.{calls_text, making_text, recording_lines, recording_text, IsFile};
+ghost use Rattle.trace_recordings.specs.Recordings.{borrowed_text, calls_text, making_text, readings_text, recording_lines, recording_text, IsFile};
 
 use std::alloc::{AllocError, AllocFailed, Global};
 use thiserror::Error;
@@ -19,6 +19,8 @@ pub struct Recording<'a> {
     pub bytes: &'a str,
     /// The lines of its dump.
     pub dump: &'a str,
+    /// What the borrowed reader and a sink made of it, where that was recorded.
+    pub readings: Option<Readings<'a>>,
 }
 
 /// The calls that made a trace.
@@ -30,10 +32,21 @@ pub struct Calls<'a> {
     pub replies: &'a str,
 }
 
+/// What the borrowed reader and a sink made of a trace.
+#[derive(Clone, Copy)]
+pub struct Readings<'a> {
+    /// The lines of the dump of the borrowed reader, where they are others.
+    pub borrowed: Option<&'a str>,
+    /// The lines of the dump with resolved events.
+    pub resolved: &'a str,
+    /// How many events a sink was given, how that ended, and at which place.
+    pub sink: &'a str,
+}
+
 /// Why a file of recordings cannot be read.
 #[derive(Clone, Copy, Debug, PartialEq, Eq, Error)]
 pub enum RecordingError {
-    #[error("no empty line ends the head of the file")]
+    #[error("the file has no head that an empty line ends")]
     Head,
     #[error("recording {0} of the file has not its parts")]
     Parts(usize),
@@ -53,8 +66,21 @@ impl<T: Drop> From<AllocFailed<T>> for RecordingError {
 pub fn recordings_of(alloc: Global, file: &str) -> Result<Vec<Recording<'_>>, RecordingError>
     ensures { IfOk result (λ v. IsFile v.items file.now) }
 {
-    let (_, recordings) = file.split_once("\n\n").ok_or(RecordingError::Head)?;
+    let (head, recordings) = file.split_once("\n\n").ok_or(RecordingError::Head)?;
+    if begins_empty(head) {
+        return Err(RecordingError::Head);
+    }
     recordings_in(alloc, recordings)
+}
+
+// Whether the first line of a text is empty.
+fn begins_empty(text: &str) -> bool
+    ensures { result ≡ false → get_or text.now 0 10 ≢ 10 }
+{
+    match text.as_bytes() {
+        [] => true,
+        [first, ..] => *first == b'\n',
+    }
 }
 
 // The recordings up to the end of a file.
@@ -87,14 +113,45 @@ fn recording_of(lines: &str) -> Option<Recording<'_>>
     ensures { IfSome result (λ r. lines.now ≡ recording_lines r) }
 {
     let named = lines.strip_prefix("== ")?;
-    let (front, dump) = named.split_once("\n# dump\n")?;
+    let (front, behind) = named.split_once("\n# dump\n")?;
     let (name, calls, bytes) = making_of(front)?;
+    let (dump, readings) = dump_of(behind)?;
     Some(Recording {
         name,
         calls,
         bytes,
         dump,
+        readings,
     })
+}
+
+// The lines of the dump, and the other readings where there are some.
+fn dump_of(lines: &str) -> Option<(&str, Option<Readings<'_>>)>
+    ensures { IfSome result (λ x. lines.now ≡ x.0.now ++ readings_text x.1) }
+{
+    match lines.split_once("\n# resolve\n") {
+        Some((front, rest)) => {
+            let (dump, borrowed) = borrowed_of(front);
+            let (resolved, sink) = rest.split_once("\n# sink\n")?;
+            let readings = Readings {
+                borrowed,
+                resolved,
+                sink,
+            };
+            Some((dump, Some(readings)))
+        }
+        None => Some((lines, None)),
+    }
+}
+
+// The lines of the dump, and those of the borrowed reader where they are others.
+fn borrowed_of(lines: &str) -> (&str, Option<&str>)
+    ensures { lines.now ≡ result.0.now ++ borrowed_text result.1 }
+{
+    match lines.split_once("\n# borrowed\n") {
+        Some((dump, borrowed)) => (dump, Some(borrowed)),
+        None => (lines, None),
+    }
 }
 
 // A name, the calls where there are some, and the bytes.

@@ -2,7 +2,7 @@
 
 ghost use Rattle.std.specs.Prelude.{◌≡◌, ◌≢◌, ◌<◌, length, IfErr, IfOk, IfSome, OnOk};
 ghost use Rattle.std.specs.Option.{option_copied};
-ghost use Rattle.trace_recordings.specs.Scripts.{IsScript, IsBrokenAt, IsFirstLine, GainsCall, EndsWithReturn};
+ghost use Rattle.trace_recordings.specs.Scripts.{IsScript, IsBrokenAt, IsFirstLine, GainsCall, EndsWithReturn, SaysNoWord};
 ghost use Rattle.trace_recordings.specs.Tallies.{counted_on};
 ghost use Rattle.trace_recordings.specs.declared.script.fault.Fault.TheVariants.{CarriageReturn, Memory};
 
@@ -34,7 +34,7 @@ pub struct ScriptError {
 #[tactic(auto, using(crate::proofs::ScriptLemmas::one_more, crate::proofs::ScriptLemmas::the_last))]
 pub fn script_of(alloc: Global, text: &[u8]) -> Result<Vec<Call>, ScriptError>
     ensures read { IfOk result (λ calls. IsScript calls.items text.now) }
-    ensures broken { IfErr result (λ error. IsBrokenAt text.now error.line) }
+    ensures broken { IfErr result (IsBrokenAt text.now) }
 {
     let mut calls = Vec::new(alloc);
     let mut rest = text;
@@ -66,6 +66,7 @@ fn first_line(text: &[u8]) -> (&[u8], Option<&[u8]>)
 fn push_call(alloc: Global, calls: &mut Vec<Call>, line: &[u8]) -> Result<(), ScriptError>
     ensures gains { OnOk result (GainsCall calls.old.items calls.new.items line.now) }
     ensures counts { IfErr result (λ error. error.line ≡ counted_on (length calls.old.items) 1) }
+    ensures unsaid { IfErr result (λ error. error.fault ≢ Memory → SaysNoWord line.now) }
 {
     let before = calls.len();
     match call_of(alloc, line) {

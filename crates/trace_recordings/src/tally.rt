@@ -1,7 +1,7 @@
 //! Counts of what was compared.
 
 ghost use Rattle.std.specs.Prelude.{◌≡◌, ◌<◌, ◌↔◌, ◌⊎◌, position, IsTrue, OnOk};
-ghost use Rattle.trace_recordings.specs.Tallies.{counted_on, counts_of, is_named, nothing_seen, seen_in, with_name, with_outcome};
+ghost use Rattle.trace_recordings.specs.Tallies.{counted_on, counts_of, is_named, nothing_seen, seen_in, with_name, with_outcome, with_readings};
 
 use crate::findings::{Findings, Outcome};
 use std::alloc::{AllocError, Global};
@@ -13,6 +13,8 @@ pub struct Tally {
     recordings: u64,
     scripts: Parts,
     dumps: Parts,
+    // What the borrowed reader and a sink made.
+    readings: Parts,
 }
 
 // How many parts of one kind were compared, and how many were left out, by the name of what the library has not.
@@ -35,11 +37,13 @@ impl Tally {
         ensures recordings { result.recordings ≡ 0 }
         ensures scripts { seen_in result.scripts ≡ nothing_seen }
         ensures dumps { seen_in result.dumps ≡ nothing_seen }
+        ensures readings { seen_in result.readings ≡ nothing_seen }
     {
         Tally {
             recordings: 0,
             scripts: Parts::new(alloc),
             dumps: Parts::new(alloc),
+            readings: Parts::new(alloc),
         }
     }
 
@@ -48,18 +52,22 @@ impl Tally {
         ensures recordings { OnOk result (self.new.recordings ≡ counted_on self.old.recordings 1) }
         ensures scripts { OnOk result (seen_in self.new.scripts ≡ with_outcome findings.now.script (seen_in self.old.scripts)) }
         ensures dumps { OnOk result (seen_in self.new.dumps ≡ with_outcome findings.now.dump (seen_in self.old.dumps)) }
+        ensures readings { OnOk result (seen_in self.new.readings ≡ with_readings findings.now (seen_in self.old.readings)) }
     {
         self.scripts.add(&findings.script)?;
         self.dumps.add(&findings.dump)?;
+        self.readings.add(&findings.borrowed)?;
+        self.readings.add(&findings.resolved)?;
+        self.readings.add(&findings.sink)?;
         self.recordings = self.recordings.saturating_add(1);
         Ok(())
     }
 
     /// Whether a recording differs.
     pub fn differs(&self) -> bool
-        ensures { IsTrue result ↔ ((0 < self.now.scripts.differences) ⊎ (0 < self.now.dumps.differences)) }
+        ensures { IsTrue result ↔ ((0 < self.now.scripts.differences) ⊎ (0 < self.now.dumps.differences) ⊎ (0 < self.now.readings.differences)) }
     {
-        self.scripts.differences > 0 || self.dumps.differences > 0
+        self.scripts.differences > 0 || self.dumps.differences > 0 || self.readings.differences > 0
     }
 }
 
@@ -129,10 +137,14 @@ impl fmt::Display for Tally {
         let recordings = self.recordings;
         let scripts = &self.scripts;
         let dumps = &self.dumps;
-        let differences = scripts.differences.saturating_add(dumps.differences);
+        let readings = &self.readings;
+        let differences = scripts
+            .differences
+            .saturating_add(dumps.differences)
+            .saturating_add(readings.differences);
         write!(
             f,
-            "{recordings} recordings; scripts: {scripts}; dumps: {dumps}; {differences} differ"
+            "{recordings} recordings; scripts: {scripts}; dumps: {dumps}; readings: {readings}; {differences} differ"
         )
     }
 }

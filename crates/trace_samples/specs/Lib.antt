@@ -1,2 +1,3 @@
+pub mod EventEntries
 pub mod Scripts
 pub mod Telling

@@ -2,21 +2,27 @@
 
 mod ample;
 mod annotations;
+mod borrowed;
 mod calls;
 mod checks;
 mod copies;
 mod dump_faults;
 mod dumps;
+mod event_types;
 mod example;
 mod fields;
 mod frames;
 mod iterators;
+mod lent;
 mod numbers;
 mod plain;
 mod pools;
 mod reading;
 mod registry;
+mod resolved;
+mod resuming;
 mod sending;
+mod sinks;
 mod tags;
 mod texts;
 mod told;

@@ -1,2 +1,3 @@
 pub mod Silence
 pub mod Marks
+pub mod Tallies

@@ -6,3 +6,4 @@
 pub mod laws;
 pub mod marks;
 pub mod silent;
+pub mod tally;

@@ -1,10 +1,10 @@
 //! The lines of a script.
 
-ghost use Rattle.std.specs.Prelude.{◌≡◌, ◌<◌, ◌++◌, ℕ, List, [], length, IfOk, IfSome, OnOk, codes, decimal};
+ghost use Rattle.std.specs.Prelude.{◌≡◌, ◌<◌, ◌++◌, ℕ, List, [], length, IfErr, IfOk, IfSome, IsNone, OnOk, codes, decimal};
 ghost use Rattle.std.specs.List.{flat_map};
 ghost use Rattle.trace_values.specs.View.{view, views};
 ghost use Rattle.trace_lines.specs.Lines.{spaced_value};
-ghost use Rattle.trace_recordings.specs.Scripts.{event_text, AreDigitsOf, IsPair, Says};
+ghost use Rattle.trace_recordings.specs.Scripts.{event_text, AreDigitsOf, IsPair, Says, SaysNoWord};
 
 use crate::script::call::Call;
 use crate::script::definitions::definition_of;
@@ -17,15 +17,34 @@ use trace_values::types::FieldValue;
 
 /// Reads what a line asks for.
 pub fn call_of(alloc: Global, line: &[u8]) -> Result<Call, Fault>
-    ensures { IfOk result (λ call. Says call line.now) }
+    ensures says { IfOk result (λ call. Says call line.now) }
+    ensures unsaid { IfErr result (λ _. SaysNoWord line.now) }
+{
+    match word_of(line) {
+        Some(call) => Ok(call),
+        None => parts_of(alloc, line),
+    }
+}
+
+// What a line asks for that says nothing, or is one word.
+#[tactic(auto, using(crate::proofs::ScriptLemmas::no_word))]
+fn word_of(line: &[u8]) -> Option<Call>
+    ensures says { IfSome result (λ call. Says call line.now) }
+    ensures unsaid { IsNone result → SaysNoWord line.now }
 {
     match line {
-        [] | [b'#', ..] => return Ok(Call::Nothing),
-        b"reset" => return Ok(Call::Reset),
-        b"resume" => return Ok(Call::Resume),
-        b"bare" => return Ok(Call::Bare),
-        _ => {}
+        [] | [b'#', ..] => Some(Call::Nothing),
+        b"reset" => Some(Call::Reset),
+        b"resume" => Some(Call::Resume),
+        b"bare" => Some(Call::Bare),
+        _ => None,
     }
+}
+
+// What a line asks for that has parts behind its word.
+fn parts_of(alloc: Global, line: &[u8]) -> Result<Call, Fault>
+    ensures { IfOk result (λ call. Says call line.now) }
+{
     if let Some(rest) = behind(line, b"define ") {
         return define(alloc, rest);
     }

@@ -56,9 +56,24 @@ pub fn put_event(
     encoder.write_event(schema, time, values)
 }
 
+/// `Encoder::write_event`, of an event of one value.
+pub fn put_one(
+    encoder: &mut Encoder,
+    schema: &Schema,
+    time: u64,
+    value: FieldValue,
+) -> Result<(), EncodeError> {
+    encoder.write_event(schema, time, &[value])
+}
+
 /// `run_calls`.
 pub fn run(alloc: Global, encoder: &mut Encoder, calls: &[Call]) -> Result<Vec<Reply>, AllocError> {
     run_calls(alloc, encoder, calls)
+}
+
+/// Whether `Decoder::new` finds a header.
+pub fn has_header(alloc: Global, bytes: &[u8]) -> bool {
+    Decoder::new(alloc, bytes).is_some()
 }
 
 /// `Decoder::new`, of bytes that begin with a header.

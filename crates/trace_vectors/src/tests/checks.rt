@@ -44,7 +44,7 @@ pub fn check_event(rt: &impl Abort, frame: &DecodedFrame, time: u64, number: u64
 /// No frame stands at the decoder's place, which is then this one.
 pub fn check_end(rt: &impl Abort, decoder: &mut Decoder<'_>, place: usize) -> Result<(), Fail> {
     assert!(rt; next(decoder)?.is_none());
-    assert_eq!(rt; decoder.position(), place);
+    assert_eq!(rt; (*decoder).position(), place);
     Ok(())
 }
 
@@ -65,7 +65,7 @@ pub fn check_all(
 /// The dump of the bytes has this status and these lines.
 pub fn check_dump(rt: &impl Abort, alloc: Global, bytes: &[u8], status: u8, lines: &str) {
     let mut out = Vec::new(alloc);
-    assert_eq!(rt; dump(alloc, bytes, &mut out), status);
+    assert_eq!(rt; dump(alloc, bytes, &mut out, false), status);
     assert_eq!(rt; out.as_slice(), lines.as_bytes());
 }
 

@@ -16,7 +16,7 @@ const LINES: &str =
 /// The dump of one event stops where the writer fails, is not tried again, and does not settle.
 fn check_stopped(rt: &impl Abort, alloc: Global, script: Script) {
     let mut told = Told::new(script);
-    assert_eq!(rt; dump(alloc, &ONE_EVENT, &mut told), FAILED);
+    assert_eq!(rt; dump(alloc, &ONE_EVENT, &mut told, false), FAILED);
     let lines = LINES.as_bytes().get(..script.place).unwrap_or(&[]);
     let faults = Faults::OneFault(kind_of(script));
     check_told(rt, &told, lines, faults, lines.is_empty());
@@ -43,7 +43,7 @@ fn dump_stops_where_the_writer_fails(rt: HostRuntime) {
 fn check_settled(rt: &impl Abort, alloc: Global, bytes: &[u8], status: u8, lines: &str) {
     for step in [1, 5, 1_024usize] {
         let mut told = Told::new(stepping(step));
-        assert_eq!(rt; dump(alloc, bytes, &mut told), status);
+        assert_eq!(rt; dump(alloc, bytes, &mut told, false), status);
         check_told(rt, &told, lines.as_bytes(), Faults::NoFault, true);
     }
 }
@@ -60,7 +60,7 @@ fn dump_settles_what_it_wrote(rt: HostRuntime) {
 fn check_unsettled(rt: &impl Abort, alloc: Global, bytes: &[u8], lines: &str) {
     for kind in [ErrorKind::StorageFull, ErrorKind::Interrupted] {
         let mut told = Told::new(unsettling(kind));
-        assert_eq!(rt; dump(alloc, bytes, &mut told), FAILED);
+        assert_eq!(rt; dump(alloc, bytes, &mut told, false), FAILED);
         check_told(rt, &told, lines.as_bytes(), Faults::OneFault(kind), false);
     }
 }

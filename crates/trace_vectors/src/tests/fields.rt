@@ -1,6 +1,6 @@
 //! Fields of events: values written by the type of their field.
 
-use crate::tests::calls::{all_of, put_event, register_new};
+use crate::tests::calls::{all_of, put_event, put_one, register_new};
 use crate::tests::checks::{check_all, check_refused};
 use crate::tests::traces::{HEADER, nested_lists, one_field};
 use dial9_trace_format::decoder::DecodedFrame;
@@ -50,7 +50,7 @@ fn check_misfit(rt: &impl Abort, encoder: &mut Encoder, schema: &Schema, value: 
 fn numbers_of_two_bytes(rt: HostRuntime) -> Result<(), Fail> {
     let schema = one_field(rt.alloc(), "S", "n", FieldType::U16)?;
     let mut encoder = Encoder::new(rt.alloc())?;
-    put_event(&mut encoder, &schema, 0, &[FieldValue::Varint(300)])?;
+    put_one(&mut encoder, &schema, 0, FieldValue::Varint(300))?;
     assert_eq!(rt; encoder.bytes_written(), 26);
     check_misfit(&rt, &mut encoder, &schema, FieldValue::Varint(65_536));
     check_misfit(&rt, &mut encoder, &schema, FieldValue::Bool(true));
@@ -64,8 +64,8 @@ fn numbers_of_two_bytes(rt: HostRuntime) -> Result<(), Fail> {
 fn absent_and_seven(alloc: Global) -> Result<Vec<u8>, EncodeError> {
     let schema = one_field(alloc, "S", "o", FieldType::OptionalU8)?;
     let mut encoder = Encoder::new(alloc)?;
-    put_event(&mut encoder, &schema, 0, &[FieldValue::None])?;
-    put_event(&mut encoder, &schema, 0, &[FieldValue::Varint(7)])?;
+    put_one(&mut encoder, &schema, 0, FieldValue::None)?;
+    put_one(&mut encoder, &schema, 0, FieldValue::Varint(7))?;
     Ok(encoder.finish())
 }
 
@@ -114,22 +114,23 @@ fn least_field_that_does_not_fit(rt: HostRuntime) -> Result<(), Fail> {
     Ok(())
 }
 
-#[test]
-fn name_of_greatest_length(rt: HostRuntime) -> Result<(), Fail> {
-    let name = "x".repeat(rt.alloc(), 65_535)?;
-    let mut encoder = Encoder::new(rt.alloc())?;
-    register_new(&mut encoder, name.as_str(), Vec::new(rt.alloc()))?;
-    assert_eq!(rt; encoder.bytes_written(), 65_548);
-    Ok(())
+/// Whether the encoder refuses a schema without fields, of a name of this length, since that is too long.
+fn is_too_long(alloc: Global, encoder: &mut Encoder, length: usize) -> Result<bool, Fail> {
+    let name = "x".repeat(alloc, length)?;
+    match register_new(encoder, name.as_str(), Vec::new(alloc)) {
+        Ok(_) => Ok(false),
+        Err(EncodeError::TooLong) => Ok(true),
+        Err(_) => Err(Fail::from("another fault")),
+    }
 }
 
 #[test]
-fn name_past_the_greatest_length(rt: HostRuntime) -> Result<(), Fail> {
-    let name = "x".repeat(rt.alloc(), 65_536)?;
+fn name_of_greatest_length(rt: HostRuntime) -> Result<(), Fail> {
     let mut encoder = Encoder::new(rt.alloc())?;
-    let refused = register_new(&mut encoder, name.as_str(), Vec::new(rt.alloc()));
-    assert!(rt; matches!(refused, Err(EncodeError::TooLong)));
+    assert!(rt; is_too_long(rt.alloc(), &mut encoder, 65_536)?);
     assert_eq!(rt; encoder.bytes_written(), 5);
+    assert!(rt; !is_too_long(rt.alloc(), &mut encoder, 65_535)?);
+    assert_eq!(rt; encoder.bytes_written(), 65_548);
     Ok(())
 }
 
@@ -140,18 +141,27 @@ fn list_of_none(alloc: Global) -> Result<FieldValue, AllocError> {
     Ok(FieldValue::List(items))
 }
 
+/// A new encoder refuses the value for a field of this type, and writes nothing.
+fn check_unfit(
+    rt: &impl Abort,
+    alloc: Global,
+    field_type: FieldType,
+    value: FieldValue,
+) -> Result<(), Fail> {
+    let values = [value];
+    let schema = one_field(alloc, "L", "l", field_type)?;
+    let mut encoder = Encoder::new(alloc)?;
+    let misfit = EncodeError::Misfit { field: 0 };
+    check_refused(rt, &mut encoder, &schema, &values, misfit);
+    Ok(())
+}
+
 #[test]
 fn lists_that_do_not_fit(rt: HostRuntime) -> Result<(), Fail> {
-    let schema = one_field(rt.alloc(), "L", "l", FieldType::DynamicList)?;
-    let mut encoder = Encoder::new(rt.alloc())?;
-    let deeper = nested_lists(rt.alloc(), 34, false)?;
-    check_misfit(&rt, &mut encoder, &schema, deeper);
-    let filled = nested_lists(rt.alloc(), 33, true)?;
-    check_misfit(&rt, &mut encoder, &schema, filled);
-    let absent = list_of_none(rt.alloc())?;
-    check_misfit(&rt, &mut encoder, &schema, absent);
-    assert_eq!(rt; encoder.bytes_written(), 5);
-    Ok(())
+    let list = FieldType::DynamicList;
+    check_unfit(&rt, rt.alloc(), list, nested_lists(rt.alloc(), 34, false)?)?;
+    check_unfit(&rt, rt.alloc(), list, nested_lists(rt.alloc(), 33, true)?)?;
+    check_unfit(&rt, rt.alloc(), list, list_of_none(rt.alloc())?)
 }
 
 /// What an encoder writes for an event at 0 of these values, of a field of this type.
@@ -209,10 +219,6 @@ fn empty_pairs(alloc: Global, count: u32) -> Result<FieldValue, AllocError> {
 
 #[test]
 fn a_million_and_one_pairs(rt: HostRuntime) -> Result<(), Fail> {
-    let schema = one_field(rt.alloc(), "M", "m", FieldType::StringMap)?;
-    let mut encoder = Encoder::new(rt.alloc())?;
     let pairs = empty_pairs(rt.alloc(), 1_000_001)?;
-    check_misfit(&rt, &mut encoder, &schema, pairs);
-    assert_eq!(rt; encoder.bytes_written(), 5);
-    Ok(())
+    check_unfit(&rt, rt.alloc(), FieldType::StringMap, pairs)
 }

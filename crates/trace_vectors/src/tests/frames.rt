@@ -1,7 +1,7 @@
 //! A trace with each kind of frame.
 
 use crate::tests::annotations::{annotated, check_unit};
-use crate::tests::calls::{all_of, decoder_of, intern, intern_stack, next, put_event, run};
+use crate::tests::calls::{all_of, decoder_of, intern, intern_stack, next, put_one, run};
 use crate::tests::checks::{check_ev, check_event};
 use crate::tests::traces::joined;
 use dial9_trace_format::codec::WireTypeId;
@@ -73,7 +73,7 @@ fn check_each_kind(rt: &impl Abort, frames: &[DecodedFrame]) {
 fn each_kind_written(rt: HostRuntime) -> Result<(), Fail> {
     let schema = annotated(rt.alloc())?;
     let mut encoder = Encoder::new(rt.alloc())?;
-    put_event(&mut encoder, &schema, 1_000, &[FieldValue::Varint(42)])?;
+    put_one(&mut encoder, &schema, 1_000, FieldValue::Varint(42))?;
     intern(&mut encoder, "hello")?;
     intern_stack(&mut encoder, &[])?;
     assert_eq!(rt; encoder.finish().as_slice(), EACH_KIND.as_slice());

@@ -63,6 +63,31 @@ impl Write for Failing {
     }
 }
 
+/// Fails its first write and its first flush by an interrupt, and keeps count of its calls.
+#[derive(Drop)]
+struct Interrupted {
+    writes: u64,
+    flushes: u64,
+}
+
+impl Write for Interrupted {
+    fn write(&mut self, piece: &[u8]) -> io::Result<usize> {
+        self.writes = self.writes.saturating_add(1);
+        if self.writes == 1 {
+            return Err(io::Error::from(ErrorKind::Interrupted));
+        }
+        Ok(piece.len())
+    }
+
+    fn flush(&mut self) -> io::Result<()> {
+        self.flushes = self.flushes.saturating_add(1);
+        if self.flushes == 1 {
+            return Err(io::Error::from(ErrorKind::Interrupted));
+        }
+        Ok(())
+    }
+}
+
 /// The kind of an error.
 fn kind_of<T: Drop>(answer: io::Result<T>) -> Option<ErrorKind> {
     match answer {
@@ -90,6 +115,18 @@ fn a_plain_writer_answers_the_error_of_its_writer(rt: HostRuntime) {
 }
 
 #[test]
+fn an_interrupt_is_not_tried_again(rt: HostRuntime) {
+    let mut plain = Plain(Interrupted {
+        writes: 0,
+        flushes: 0,
+    });
+    assert_eq!(rt; kind_of(plain.send(b"a")), Some(ErrorKind::Interrupted));
+    assert_eq!(rt; plain.0.writes, 1);
+    assert_eq!(rt; kind_of(plain.settle()), Some(ErrorKind::Interrupted));
+    assert_eq!(rt; plain.0.flushes, 1);
+}
+
+#[test]
 fn the_error_of_a_plain_writer_is_the_fault(rt: HostRuntime) {
     let failing = Failing {
         write: ErrorKind::PermissionDenied,
@@ -98,7 +135,7 @@ fn the_error_of_a_plain_writer_is_the_fault(rt: HostRuntime) {
     let fault = EncodeError::Writer(ErrorKind::PermissionDenied);
     let mut plain = Plain(failing);
     assert_eq!(rt; send_bytes(&mut plain, b"a"), Err(fault));
-    assert_eq!(rt; dump(rt.alloc(), &ONE_EVENT, &mut plain), FAILED);
+    assert_eq!(rt; dump(rt.alloc(), &ONE_EVENT, &mut plain, false), FAILED);
     match Encoder::new_to(rt.alloc(), plain) {
         Ok(_) => assert!(rt; false, "no fault"),
         Err(e) => assert_eq!(rt; e, EncodeError::Writer(ErrorKind::PermissionDenied)),
@@ -145,10 +182,10 @@ fn settling_flushes_once(rt: HostRuntime) -> Result<(), Fail> {
 #[test]
 fn a_dump_flushes_once(rt: HostRuntime) {
     let mut plain = Plain(Counting::new(rt.alloc(), 1_000));
-    assert_eq!(rt; dump(rt.alloc(), &ONE_EVENT, &mut plain), WHOLE);
+    assert_eq!(rt; dump(rt.alloc(), &ONE_EVENT, &mut plain, false), WHOLE);
     assert_eq!(rt; plain.0.flushes, 1);
     let mut failing = Plain(FlushFails(Counting::new(rt.alloc(), 1_000)));
-    assert_eq!(rt; dump(rt.alloc(), &ONE_EVENT, &mut failing), FAILED);
+    assert_eq!(rt; dump(rt.alloc(), &ONE_EVENT, &mut failing, false), FAILED);
     assert_eq!(rt; failing.0.0.flushes, 1);
 }
 

@@ -1,6 +1,6 @@
 //! What a decoder gives.
 
-use crate::tests::calls::{all, all_of, decoder_of, next_one};
+use crate::tests::calls::{all, all_of, decoder_of, has_header, next_one};
 use crate::tests::checks::{check_all, check_end, check_ev, check_event};
 use crate::tests::traces::{EV_SCHEMA, HEADER, ONE_EVENT, OTHER_EV, joined, written};
 use dial9_trace_format::codec::WireTypeId;
@@ -9,41 +9,44 @@ use std::alloc::{AllocError, Global};
 use std::process::Abort;
 use std::test::Fail;
 
+/// The bytes are headers alone, the first of this version.
+fn check_streams(rt: &impl Abort, alloc: Global, bytes: &[u8], version: u8) -> Result<(), Fail> {
+    let mut decoder = decoder_of(alloc, bytes)?;
+    check_end(rt, &mut decoder, bytes.len())?;
+    assert_eq!(rt; decoder.version(), version);
+    assert_eq!(rt; decoder.data_len(), bytes.len());
+    Ok(())
+}
+
 #[test]
 fn header_alone(rt: HostRuntime) -> Result<(), Fail> {
-    let mut decoder = decoder_of(rt.alloc(), &HEADER)?;
-    assert_eq!(rt; decoder.version(), 1);
-    assert_eq!(rt; decoder.data_len(), 5);
-    check_end(&rt, &mut decoder, 5)
+    check_streams(&rt, rt.alloc(), &HEADER, 1)
 }
 
 #[test]
 fn any_version(rt: HostRuntime) -> Result<(), Fail> {
     let bytes = [0x54, 0x52, 0x43, 0x00, 0x07, 0x54, 0x52, 0x43, 0x00, 0x02];
-    let mut decoder = decoder_of(rt.alloc(), &bytes)?;
-    check_end(&rt, &mut decoder, 10)?;
-    assert_eq!(rt; decoder.version(), 7);
-    Ok(())
+    check_streams(&rt, rt.alloc(), &bytes, 7)
 }
 
 #[test]
 fn no_header(rt: HostRuntime) {
-    assert!(rt; Decoder::new(rt.alloc(), &[]).is_none());
-    assert!(rt; Decoder::new(rt.alloc(), &[0x54, 0x52, 0x43, 0x01, 0x01]).is_none());
-    assert!(rt; Decoder::new(rt.alloc(), &[0x54, 0x52, 0x43, 0x00]).is_none());
+    assert!(rt; !has_header(rt.alloc(), &[]));
+    assert!(rt; !has_header(rt.alloc(), &[0x54, 0x52, 0x43, 0x01, 0x01]));
+    assert!(rt; !has_header(rt.alloc(), &[0x54, 0x52, 0x43, 0x00]));
 }
 
 /// The decoder gives the schema `Ev`, and is then at this place.
 fn check_next_ev(rt: &impl Abort, decoder: &mut Decoder<'_>, place: usize) -> Result<(), Fail> {
     check_ev(rt, &next_one(decoder)?);
-    assert_eq!(rt; decoder.position(), place);
+    assert_eq!(rt; (*decoder).position(), place);
     Ok(())
 }
 
 /// The decoder gives the event at 1,000 with 42, and is then at this place.
 fn check_next_event(rt: &impl Abort, decoder: &mut Decoder<'_>, place: usize) -> Result<(), Fail> {
     check_event(rt, &next_one(decoder)?, 1_000, 42);
-    assert_eq!(rt; decoder.position(), place);
+    assert_eq!(rt; (*decoder).position(), place);
     Ok(())
 }
 
@@ -55,22 +58,34 @@ fn one_event_frame_by_frame(rt: HostRuntime) -> Result<(), Fail> {
     check_end(&rt, &mut decoder, 26)
 }
 
+/// How many frames the one event has that is cut behind its header, and where they end.
+fn read_of_cut(cut: usize) -> (usize, usize) {
+    if cut < 19 {
+        (0, 5)
+    } else if cut < 26 {
+        (1, 19)
+    } else {
+        (2, 26)
+    }
+}
+
+/// The first frame of the bytes is the schema `Ev`.
+fn check_first_ev(rt: &impl Abort, alloc: Global, bytes: &[u8]) -> Result<(), Fail> {
+    let mut decoder = decoder_of(alloc, bytes)?;
+    check_next_ev(rt, &mut decoder, 19)
+}
+
 #[test]
 fn every_cut_of_one_event(rt: HostRuntime) -> Result<(), Fail> {
-    for cut in 0..27usize {
-        let bytes = &ONE_EVENT[..cut];
-        if cut < 5 {
-            assert!(rt; Decoder::new(rt.alloc(), bytes).is_none());
-        } else if cut < 19 {
-            check_all(&rt, rt.alloc(), bytes, 0, 5)?;
-        } else if cut < 26 {
-            check_all(&rt, rt.alloc(), bytes, 1, 19)?;
-            let frames = all_of(rt.alloc(), bytes)?;
-            assert_eq!(rt; frames.len(), 1);
-            check_ev(&rt, &frames[0]);
-        } else {
-            check_all(&rt, rt.alloc(), bytes, 2, 26)?;
-        }
+    for cut in 0..5usize {
+        assert!(rt; !has_header(rt.alloc(), &ONE_EVENT[..cut]));
+    }
+    for cut in 5..27usize {
+        let (count, place) = read_of_cut(cut);
+        check_all(&rt, rt.alloc(), &ONE_EVENT[..cut], count, place)?;
+    }
+    for cut in 19..27usize {
+        check_first_ev(&rt, rt.alloc(), &ONE_EVENT[..cut])?;
     }
     Ok(())
 }
@@ -129,7 +144,7 @@ fn check_conflict(rt: &impl Abort, decoder: &mut Decoder<'_>) {
             assert_eq!(rt; fault.kind, DecodeErrorKind::Conflict(WireTypeId(256)));
         }
     }
-    assert_eq!(rt; decoder.position(), 40);
+    assert_eq!(rt; (*decoder).position(), 40);
 }
 
 #[test]

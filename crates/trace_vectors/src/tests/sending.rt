@@ -1,9 +1,10 @@
 //! Bytes, numbers and values sent to a writer that fails: what was answered, and what the writer tells of it.
 
-use crate::tests::told::{KINDS, breaking, check_told, kind_of, once, stepping};
+use crate::tests::told::{KINDS, breaking, check_told, kind_of, once, stepping, unsettling};
 use dial9_trace_format::leb128::{EncodeError, Faults, encode_unsigned, send_all};
 use dial9_trace_format::types::FieldValue;
 use std::alloc::Global;
+use std::io::ErrorKind;
 use std::process::Abort;
 use std::test::Fail;
 use trace_samples::{Script, Told};
@@ -135,4 +136,18 @@ fn nothing_is_sent_of_no_bytes(rt: HostRuntime) -> Result<(), Fail> {
         check_told(&rt, &told, &[], Faults::NoFault, true);
     }
     Ok(())
+}
+
+/// The call settles nothing: the writer would fail then.
+fn check_unsettled(rt: &impl Abort, alloc: Global, work: Work) {
+    let mut told = Told::new(unsettling(ErrorKind::StorageFull));
+    assert_eq!(rt; make(rt, alloc, &mut told, work), Ok(()));
+    assert_eq!(rt; told.faults(), Faults::NoFault);
+}
+
+#[test]
+fn sending_settles_nothing(rt: HostRuntime) {
+    for work in EACH {
+        check_unsettled(&rt, rt.alloc(), work);
+    }
 }

@@ -1,6 +1,6 @@
 //! Traces that several tests use.
 
-use crate::tests::calls::put_event;
+use crate::tests::calls::put_one;
 use dial9_trace_format::encoder::{Encoder, Schema};
 use dial9_trace_format::leb128::EncodeError;
 use dial9_trace_format::schema::FieldDef;
@@ -64,12 +64,7 @@ pub fn written(alloc: Global, name: &str, events: &[(u64, u64)]) -> Result<Vec<u
     let schema = one_field(alloc, name, "v", FieldType::Varint)?;
     let mut encoder = Encoder::new(alloc)?;
     for event in events {
-        put_event(
-            &mut encoder,
-            &schema,
-            event.0,
-            &[FieldValue::Varint(event.1)],
-        )?;
+        put_one(&mut encoder, &schema, event.0, FieldValue::Varint(event.1))?;
     }
     Ok(encoder.finish())
 }

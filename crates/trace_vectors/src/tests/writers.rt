@@ -1,6 +1,6 @@
 //! Encoders over a writer that fails: what was answered, and what the writer tells of it.
 
-use crate::tests::told::{KINDS, breaking, check_told, kind_of, once, stepping};
+use crate::tests::told::{KINDS, breaking, check_told, kind_of, once, stepping, unsettling};
 use crate::tests::traces::{ONE_EVENT, ev, one_definition};
 use dial9_trace_format::codec::{PoolEntry, StackPoolEntry};
 use dial9_trace_format::encoder::Encoder;
@@ -230,5 +230,22 @@ fn writer_fails_after_eight_bytes(rt: HostRuntime) -> Result<(), Fail> {
         Faults::OneFault(ErrorKind::BrokenPipe),
         false,
     );
+    Ok(())
+}
+
+/// The call settles nothing, nor does it where all is known: the writer would fail then.
+fn check_unsettled(rt: &impl Abort, alloc: Global, work: Work) -> Result<(), EncodeError> {
+    let mut encoder = Encoder::new_to(alloc, Told::new(unsettling(ErrorKind::StorageFull)))?;
+    make(alloc, &mut encoder, work)?;
+    make(alloc, &mut encoder, work)?;
+    assert_eq!(rt; encoder.as_inner().faults(), Faults::NoFault);
+    Ok(())
+}
+
+#[test]
+fn an_encoder_settles_nothing(rt: HostRuntime) -> Result<(), Fail> {
+    for work in EACH {
+        check_unsettled(&rt, rt.alloc(), work)?;
+    }
     Ok(())
 }

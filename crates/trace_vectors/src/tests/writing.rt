@@ -1,6 +1,6 @@
 //! What an encoder writes.
 
-use crate::tests::calls::{put_event, register, register_new, run};
+use crate::tests::calls::{put_one, register, register_new, run};
 use crate::tests::checks::{check_refused, check_registered};
 use crate::tests::traces::{EV_SCHEMA, HEADER, ONE_EVENT, ev, one_definition, one_field, written};
 use dial9_trace_format::codec::WireTypeId;
@@ -23,7 +23,7 @@ fn one_event(rt: HostRuntime) -> Result<(), Fail> {
     let schema = ev(rt.alloc())?;
     let mut encoder = Encoder::new(rt.alloc())?;
     check_registered(&rt, &mut encoder, &schema, 256, 19);
-    put_event(&mut encoder, &schema, 1_000, &[FieldValue::Varint(42)])?;
+    put_one(&mut encoder, &schema, 1_000, FieldValue::Varint(42))?;
     assert_eq!(rt; encoder.bytes_written(), 26);
     assert_eq!(rt; encoder.as_inner().as_slice(), ONE_EVENT.as_slice());
     assert_eq!(rt; encoder.into_inner().as_slice(), ONE_EVENT.as_slice());
@@ -51,7 +51,7 @@ fn event_of_a_copy(alloc: Global) -> Result<Vec<u8>, EncodeError> {
     let mut encoder = Encoder::new(alloc)?;
     let schema = registered_ev(alloc, &mut encoder)?;
     let copy = schema.clone()?;
-    put_event(&mut encoder, &copy, 1_000, &[FieldValue::Varint(42)])?;
+    put_one(&mut encoder, &copy, 1_000, FieldValue::Varint(42))?;
     Ok(encoder.finish())
 }
 

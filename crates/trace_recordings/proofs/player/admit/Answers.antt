@@ -1,7 +1,9 @@
-use Rattle.std.proofs.Common.{sym, ◌∙◌}
-use Rattle.trace_recordings.proofs.RefusalLemmas.{first_missing}
+use Rattle.std.proofs.Common.{rules}
+use Rattle.trace_recordings.specs.Refusals.{LeavesOut}
+use Rattle.trace_recordings.proofs.RefusalLemmas.{left_out_at}
 use Rattle.trace_recordings.proofs.player.admit.Goals as goal
 
-pub returns-then-is_missing-clause-refused : goal.returns-then-is_missing-clause-refused
-returns-then-is_missing-clause-refused c =
-    first_missing _ _ _ _ _ c.loop-before-test.true c.index-script-before.is c.loop-before.invariant (sym c.is_missing.ensures ∙ c.if-is_missing.true) c.saturating_add.ensures c.name.ensures
+pub returns-in_err-admit_call-clause-refused : goal.returns-in_err-admit_call-clause-refused
+returns-in_err-admit_call-clause-refused c =
+    let refused : LeavesOut c.args.script.now c.in_err-admit_call.field-0.0 = left_out_at _ _ _ _ _ c.loop-before-test.true c.index-script-before.is c.loop-before.invariant c.saturating_add.ensures c.in_err-admit_call.ensures.refused in
+    search rules

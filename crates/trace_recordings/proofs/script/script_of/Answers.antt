@@ -11,5 +11,5 @@ returns-in-None-clause-read c =
 
 pub returns-in_err-push_call-clause-broken : goal.returns-in_err-push_call-clause-broken
 returns-in_err-push_call-clause-broken c =
-    let broken : IsBrokenAt c.args.text.now c.in_err-push_call.field-0.0.line = broken_at _ _ _ _ _ _ c.loop-calls.invariant c.first_line.ensures.line c.in_err-push_call.ensures.counts in
+    let broken : IsBrokenAt c.args.text.now c.in_err-push_call.field-0.0 = broken_at _ _ _ _ _ _ c.loop-calls.invariant c.first_line.ensures.line c.in_err-push_call.ensures.counts c.in_err-push_call.ensures.unsaid in
     search rules

@@ -3,7 +3,7 @@
 use crate::tests::ample::schemas::fields;
 use crate::tests::ample::traces::{check_trace, check_whole_dump};
 use crate::tests::ample::{COUNTS, MILLION, SIZED, SIZES, spelled_length, text, value};
-use crate::tests::calls::{put_event, register, register_new, run};
+use crate::tests::calls::{put_event, put_one, register, register_new, run};
 use crate::tests::traces::{ev, one_field};
 use dial9_trace_format::encoder::{Call, Encoder, Reply, Schema};
 use dial9_trace_format::leb128::EncodeError;
@@ -58,46 +58,18 @@ fn events_of_each_size(rt: HostRuntime) -> Result<(), Fail> {
     for field_type in SIZED {
         for size in SIZES {
             check_sized(&rt, rt.alloc(), field_type, size)?;
-        }
-    }
-    Ok(())
-}
-
-#[test]
-fn dumps_of_each_size(rt: HostRuntime) -> Result<(), Fail> {
-    for field_type in SIZED {
-        for size in SIZES {
             check_dumped(&rt, rt.alloc(), field_type, size)?;
         }
     }
-    Ok(())
-}
-
-#[test]
-fn events_of_a_million_bytes(rt: HostRuntime) -> Result<(), Fail> {
-    check_sized(&rt, rt.alloc(), FieldType::String, MILLION)?;
-    check_sized(&rt, rt.alloc(), FieldType::Bytes, MILLION)?;
     check_dumped(&rt, rt.alloc(), FieldType::Bytes, MILLION)
 }
 
 #[test]
-fn events_of_a_million_addresses(rt: HostRuntime) -> Result<(), Fail> {
-    check_sized(&rt, rt.alloc(), FieldType::StackFrames, MILLION)
-}
-
-#[test]
-fn events_of_a_million_pairs_of_texts(rt: HostRuntime) -> Result<(), Fail> {
-    check_sized(&rt, rt.alloc(), FieldType::StringMap, MILLION)
-}
-
-#[test]
-fn events_of_a_million_items(rt: HostRuntime) -> Result<(), Fail> {
-    check_sized(&rt, rt.alloc(), FieldType::DynamicList, MILLION)
-}
-
-#[test]
-fn events_of_a_million_pairs(rt: HostRuntime) -> Result<(), Fail> {
-    check_sized(&rt, rt.alloc(), FieldType::DynamicMap, MILLION)
+fn events_of_a_million(rt: HostRuntime) -> Result<(), Fail> {
+    for field_type in SIZED {
+        check_sized(&rt, rt.alloc(), field_type, MILLION)?;
+    }
+    Ok(())
 }
 
 #[test]
@@ -152,7 +124,7 @@ fn events_of_each_count_of_fields(rt: HostRuntime) -> Result<(), Fail> {
 fn many_events(alloc: Global, count: usize) -> Result<Vec<u8>, EncodeError> {
     let mut encoder = Encoder::new(alloc)?;
     for _ in 0..count {
-        put_event(&mut encoder, &ev(alloc)?, 0, &[FieldValue::Varint(0)])?;
+        put_one(&mut encoder, &ev(alloc)?, 0, FieldValue::Varint(0))?;
     }
     Ok(encoder.finish())
 }

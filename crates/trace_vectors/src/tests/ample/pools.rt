@@ -39,13 +39,19 @@ fn texts_and_stacks_of_each_size(rt: HostRuntime) -> Result<(), Fail> {
     check_sized(&rt, rt.alloc(), MILLION)
 }
 
+/// Interns the number as a text and as a stack.
+fn intern_both(alloc: Global, encoder: &mut Encoder, number: usize) -> Result<(), EncodeError> {
+    let text = format!(in alloc; "{number}")?;
+    intern(encoder, text.as_str())?;
+    intern_stack(encoder, &[number as u64])?;
+    Ok(())
+}
+
 /// What an encoder writes for so many texts and stacks.
 fn many(alloc: Global, count: usize) -> Result<Vec<u8>, EncodeError> {
     let mut encoder = Encoder::new(alloc)?;
     for number in 0..count {
-        let text = format!(in alloc; "{number}")?;
-        intern(&mut encoder, text.as_str())?;
-        intern_stack(&mut encoder, &[number as u64])?;
+        intern_both(alloc, &mut encoder, number)?;
     }
     Ok(encoder.finish())
 }

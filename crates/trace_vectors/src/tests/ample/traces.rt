@@ -35,6 +35,6 @@ pub fn check_trace(rt: &impl Abort, alloc: Global, bytes: &[u8], count: usize) -
 /// The dump of the trace is whole.
 pub fn check_whole_dump(rt: &impl Abort, alloc: Global, bytes: &[u8]) {
     let mut out = Vec::new(alloc);
-    assert_eq!(rt; dump(alloc, bytes, &mut out), WHOLE);
+    assert_eq!(rt; dump(alloc, bytes, &mut out, false), WHOLE);
     assert!(rt; out.as_slice().ends_with(b"\nend whole\n"));
 }

@@ -73,29 +73,11 @@ fn values_of_each_size(rt: HostRuntime) -> Result<(), Fail> {
 }
 
 #[test]
-fn values_of_a_million_bytes(rt: HostRuntime) -> Result<(), Fail> {
-    check_sized(&rt, rt.alloc(), FieldType::String, MILLION)?;
-    check_sized(&rt, rt.alloc(), FieldType::Bytes, MILLION)
-}
-
-#[test]
-fn values_of_a_million_addresses(rt: HostRuntime) -> Result<(), Fail> {
-    check_sized(&rt, rt.alloc(), FieldType::StackFrames, MILLION)
-}
-
-#[test]
-fn values_of_a_million_pairs_of_texts(rt: HostRuntime) -> Result<(), Fail> {
-    check_sized(&rt, rt.alloc(), FieldType::StringMap, MILLION)
-}
-
-#[test]
-fn values_of_a_million_items(rt: HostRuntime) -> Result<(), Fail> {
-    check_sized(&rt, rt.alloc(), FieldType::DynamicList, MILLION)
-}
-
-#[test]
-fn values_of_a_million_pairs(rt: HostRuntime) -> Result<(), Fail> {
-    check_sized(&rt, rt.alloc(), FieldType::DynamicMap, MILLION)
+fn values_of_a_million(rt: HostRuntime) -> Result<(), Fail> {
+    for field_type in SIZED {
+        check_sized(&rt, rt.alloc(), field_type, MILLION)?;
+    }
+    Ok(())
 }
 
 /// The value of this size is written as a field, by the type and by its optional type.
@@ -124,13 +106,6 @@ fn fields_of_each_size(rt: HostRuntime) -> Result<(), Fail> {
         for size in SIZES {
             check_field(&rt, rt.alloc(), field_type, size)?;
         }
-    }
-    Ok(())
-}
-
-#[test]
-fn fields_of_a_million(rt: HostRuntime) -> Result<(), Fail> {
-    for field_type in SIZED {
         check_field(&rt, rt.alloc(), field_type, MILLION)?;
     }
     Ok(())

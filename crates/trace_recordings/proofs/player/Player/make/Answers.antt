@@ -1,4 +1,6 @@
-use Rattle.trace_recordings.proofs.PlayingLemmas.{asked_turn}
+use Rattle.std.proofs.Common.{rules, ◌≡◌}
+use Rattle.trace_recordings.specs.declared.script.call.Call.TheVariants.{DefineType, Reset}
+use Rattle.trace_recordings.proofs.PlayingLemmas.{asked_turn, reset_turn, type_turn}
 use Rattle.trace_recordings.specs.Playing.{playing_of}
 use Rattle.trace_recordings.proofs.RefusalLemmas.{no_memory_in}
 use Rattle.trace_recordings.proofs.player.Player.make.Goals as goal
@@ -7,4 +9,17 @@ pub returns-in_ok-reply-in_default-clause-turns : goal.returns-in_ok-reply-in_de
 returns-in_ok-reply-in_default-clause-turns c = asked_turn c.note-in_default.result _ _ _ _ _ c.in_ok-reply-in_default.ensures.asked c.note-in_default.ensures.noted
 
 pub returns-in_ok-reply-in_default-clause-refused : goal.returns-in_ok-reply-in_default-clause-refused
-returns-in_ok-reply-in_default-clause-refused c = no_memory_in c.note-in_default.result (playing_of c.args.self.now) _ _ c.note-in_default.ensures.refused
+returns-in_ok-reply-in_default-clause-refused c = no_memory_in c.note-in_default.result (playing_of c.args.self.now) c.args.line c.args.call.now c.note-in_default.ensures.refused
+
+pub returns-in_ok-note-in-Reset-clause-turns : goal.returns-in_ok-note-in-Reset-clause-turns
+returns-in_ok-note-in-Reset-clause-turns c =
+    let is : c.args.call.now ≡ Reset = search rules in
+    reset_turn c.note-in-Reset.result _ _ _ _ _ is c.in_ok-note-in-Reset.ensures.resets c.note-in-Reset.ensures.noted
+
+pub returns-in_ok-note-in-Reset-clause-refused : goal.returns-in_ok-note-in-Reset-clause-refused
+returns-in_ok-note-in-Reset-clause-refused c = no_memory_in c.note-in-Reset.result (playing_of c.args.self.now) c.args.line c.args.call.now c.note-in-Reset.ensures.refused
+
+pub returns-in_ok-define_type-in-DefineType-clause-turns : goal.returns-in_ok-define_type-in-DefineType-clause-turns
+returns-in_ok-define_type-in-DefineType-clause-turns c =
+    let is : c.args.call.now ≡ DefineType c.in-DefineType.handle c.in-DefineType.slot c.in-DefineType.definition = search rules in
+    type_turn c.note-in-DefineType.result _ _ _ _ _ _ _ is c.in_ok-define_type-in-DefineType.ensures.defined c.note-in-DefineType.ensures.noted

@@ -1,0 +1,176 @@
+//! Events of the sample types, from the values of a script (docs/RECORDINGS.md, "Scripts").
+
+ghost use Rattle.std.specs.Prelude.{◌≡◌, ◌==◌, ◌&&◌, true, IfOk, IfSome, is_none};
+ghost use Rattle.trace_values.specs.View.{views};
+ghost use Rattle.trace_wire.specs.Schemas.{same_entry};
+ghost use Rattle.trace_recordings.specs.Samples.{WritesEvent, entry_in, is_sample, place_of, slot_of};
+ghost use Rattle.trace_recordings.specs.declared.typed.Unheld.TheVariants.{Memory};
+
+mod events;
+mod fields;
+
+use crate::player::done;
+use events::HoldsValues;
+use std::alloc::{AllocError, AllocFailed, Global};
+use trace_samples::events::{
+    AlsoByName, Annotated, Borrowed, ByName, Dynamic, FastSlot, LastSlot, Nameless, Numbers, Poll,
+    PollAgain, PollNoted, SlotClash, Stacks, Texts,
+};
+use trace_values::types::FieldValue;
+use trace_wire::schema::SchemaEntry;
+use trace_writer::encoder::{Encoder, Reply};
+use trace_writer::event::TraceEvent;
+
+/// A sample type that scripts may name: all but `Options` and `Wide`.
+#[derive(Clone, Copy, PartialEq, Eq)]
+pub enum Sample {
+    FastSlot,
+    Poll,
+    Texts,
+    Stacks,
+    Annotated,
+    LastSlot,
+    ByName,
+    Dynamic,
+    PollAgain,
+    PollNoted,
+    SlotClash,
+    AlsoByName,
+    Nameless,
+    Numbers,
+    Borrowed,
+}
+
+// All of them.
+const SAMPLES: [Sample; 15] = [
+    Sample::FastSlot,
+    Sample::Poll,
+    Sample::Texts,
+    Sample::Stacks,
+    Sample::Annotated,
+    Sample::LastSlot,
+    Sample::ByName,
+    Sample::Dynamic,
+    Sample::PollAgain,
+    Sample::PollNoted,
+    Sample::SlotClash,
+    Sample::AlsoByName,
+    Sample::Nameless,
+    Sample::Numbers,
+    Sample::Borrowed,
+];
+
+/// Why no field or event holds a value.
+#[derive(Clone, Copy, Debug, PartialEq, Eq)]
+pub enum Unheld {
+    /// It is of another kind, or too large, or not UTF-8; or there are more or fewer.
+    Unfit,
+    /// A growth was refused.
+    Memory,
+}
+
+impl From<AllocError> for Unheld {
+    ghost from_gives = { λ _ u. u ≡ Memory };
+
+    fn from(_: AllocError) -> Unheld {
+        Unheld::Memory
+    }
+}
+
+impl<T: Drop> From<AllocFailed<T>> for Unheld {
+    ghost from_gives = { λ _ u. u ≡ Memory };
+
+    fn from(_: AllocFailed<T>) -> Unheld {
+        Unheld::Memory
+    }
+}
+
+/// The sample type that has this slot and this schema.
+pub fn sample_in(slot: u64, entry: &SchemaEntry) -> Option<Sample>
+    ensures found { IfSome result (λ sample. is_sample slot entry.now sample ≡ true) }
+    ensures none { is_none result ≡ is_none (place_of slot entry.now) }
+{
+    let place = place_in(slot, entry)?;
+    Some(SAMPLES[place])
+}
+
+// The place among the samples of the one that has this slot and this schema.
+fn place_in(slot: u64, entry: &SchemaEntry) -> Option<usize>
+    ensures { result ≡ place_of slot entry.now }
+{
+    SAMPLES
+        .iter()
+        .position(|sample| is_of(*sample, slot, entry))
+}
+
+// Whether a sample has this slot and this schema.
+fn is_of(sample: Sample, slot: u64, entry: &SchemaEntry) -> bool
+    ensures { result ≡ is_sample slot entry.now sample }
+{
+    match sample {
+        Sample::FastSlot => is_type::<FastSlot>(slot, entry),
+        Sample::Poll => is_type::<Poll>(slot, entry),
+        Sample::Texts => is_type::<Texts>(slot, entry),
+        Sample::Stacks => is_type::<Stacks>(slot, entry),
+        Sample::Annotated => is_type::<Annotated>(slot, entry),
+        Sample::LastSlot => is_type::<LastSlot>(slot, entry),
+        Sample::ByName => is_type::<ByName>(slot, entry),
+        Sample::Dynamic => is_type::<Dynamic>(slot, entry),
+        Sample::PollAgain => is_type::<PollAgain>(slot, entry),
+        Sample::PollNoted => is_type::<PollNoted>(slot, entry),
+        Sample::SlotClash => is_type::<SlotClash>(slot, entry),
+        Sample::AlsoByName => is_type::<AlsoByName>(slot, entry),
+        Sample::Nameless => is_type::<Nameless>(slot, entry),
+        Sample::Borrowed => is_type::<Borrowed<'_>>(slot, entry),
+        Sample::Numbers => is_type::<Numbers>(slot, entry),
+    }
+}
+
+// Whether a type has this slot and this schema.
+fn is_type<T: TraceEvent>(slot: u64, entry: &SchemaEntry) -> bool
+    ensures { result ≡ (slot == T.slot) && same_entry entry.now T.entry }
+{
+    u64::from(T::type_slot()) == slot && T::is_entry(entry)
+}
+
+/// Writes the event of a sample type that has these values.
+pub fn write_sample(
+    alloc: Global,
+    encoder: &mut Encoder,
+    sample: Sample,
+    time: u64,
+    values: &[FieldValue],
+) -> Result<Reply, Unheld>
+    ensures { IfOk result (WritesEvent (slot_of sample) (entry_in sample) time (views values.now) encoder.old encoder.new) }
+{
+    match sample {
+        Sample::FastSlot => write_as::<FastSlot>(alloc, encoder, time, values),
+        Sample::Poll => write_as::<Poll>(alloc, encoder, time, values),
+        Sample::Texts => write_as::<Texts>(alloc, encoder, time, values),
+        Sample::Stacks => write_as::<Stacks>(alloc, encoder, time, values),
+        Sample::Annotated => write_as::<Annotated>(alloc, encoder, time, values),
+        Sample::LastSlot => write_as::<LastSlot>(alloc, encoder, time, values),
+        Sample::ByName => write_as::<ByName>(alloc, encoder, time, values),
+        Sample::Dynamic => write_as::<Dynamic>(alloc, encoder, time, values),
+        Sample::PollAgain => write_as::<PollAgain>(alloc, encoder, time, values),
+        Sample::PollNoted => write_as::<PollNoted>(alloc, encoder, time, values),
+        Sample::SlotClash => write_as::<SlotClash>(alloc, encoder, time, values),
+        Sample::AlsoByName => write_as::<AlsoByName>(alloc, encoder, time, values),
+        Sample::Nameless => write_as::<Nameless>(alloc, encoder, time, values),
+        Sample::Borrowed => write_as::<Borrowed<'_>>(alloc, encoder, time, values),
+        Sample::Numbers => write_as::<Numbers>(alloc, encoder, time, values),
+    }
+}
+
+// The same of a type.
+fn write_as<'a, T: HoldsValues<'a> + Drop>(
+    alloc: Global,
+    encoder: &mut Encoder,
+    time: u64,
+    values: &'a [FieldValue],
+) -> Result<Reply, Unheld>
+    ensures { IfOk result (WritesEvent T.slot T.entry time (views values.now) encoder.old encoder.new) }
+{
+    let event = T::of_values(alloc, time, values)?;
+    Ok(done(encoder.write(&event)))
+}

@@ -1,0 +1,217 @@
+//! Events of the sample types, from values.
+
+ghost use Rattle.std.specs.Prelude.{◌≡◌, IfOk};
+ghost use Rattle.trace_values.specs.View.{views};
+
+use crate::typed::Unheld;
+use crate::typed::fields::HoldsValue;
+use std::alloc::Global;
+use trace_samples::events::{
+    AlsoByName, Annotated, Borrowed, ByName, Dynamic, FastSlot, LastSlot, Nameless, Numbers, Poll,
+    PollAgain, PollNoted, SlotClash, Stacks, Texts,
+};
+use trace_values::types::{
+    BytesField, F64Bits, FieldValue, InternedStackFrames, InternedString, StackFrames, StrField,
+};
+use trace_writer::event::TraceEvent;
+
+/// An event that can be made from a time and values.
+pub trait HoldsValues<'a>: TraceEvent {
+    /// The event of this time with these values.
+    fn of_values(alloc: Global, time: u64, values: &'a [FieldValue]) -> Result<Self, Unheld>
+        ensures time { IfOk result (λ e. Self.time e ≡ time) }
+        ensures values { IfOk result (λ e. Self.values e ≡ views values.now) };
+}
+
+impl<'a> HoldsValues<'a> for FastSlot {
+    fn of_values(_: Global, time: u64, values: &'a [FieldValue]) -> Result<FastSlot, Unheld> {
+        match values {
+            [] => Ok(FastSlot { time }),
+            _ => Err(Unheld::Unfit),
+        }
+    }
+}
+
+impl<'a> HoldsValues<'a> for Poll {
+    fn of_values(alloc: Global, time: u64, values: &'a [FieldValue]) -> Result<Poll, Unheld> {
+        let [worker, cpu, label] = values else {
+            return Err(Unheld::Unfit);
+        };
+        Ok(Poll {
+            time,
+            worker: u64::of_value(alloc, worker)?,
+            cpu: Option::<u32>::of_value(alloc, cpu)?,
+            label: InternedString::of_value(alloc, label)?,
+        })
+    }
+}
+
+impl<'a> HoldsValues<'a> for Texts {
+    fn of_values(alloc: Global, time: u64, values: &'a [FieldValue]) -> Result<Texts, Unheld> {
+        let [text, blob, pairs] = values else {
+            return Err(Unheld::Unfit);
+        };
+        Ok(Texts {
+            time,
+            text: String::of_value(alloc, text)?,
+            blob: Vec::<u8>::of_value(alloc, blob)?,
+            pairs: Vec::<(String, String)>::of_value(alloc, pairs)?,
+        })
+    }
+}
+
+impl<'a> HoldsValues<'a> for Stacks {
+    fn of_values(alloc: Global, time: u64, values: &'a [FieldValue]) -> Result<Stacks, Unheld> {
+        let [frames, stack] = values else {
+            return Err(Unheld::Unfit);
+        };
+        Ok(Stacks {
+            time,
+            frames: StackFrames::of_value(alloc, frames)?,
+            stack: InternedStackFrames::of_value(alloc, stack)?,
+        })
+    }
+}
+
+impl<'a> HoldsValues<'a> for Annotated {
+    fn of_values(alloc: Global, time: u64, values: &'a [FieldValue]) -> Result<Annotated, Unheld> {
+        let [load] = values else {
+            return Err(Unheld::Unfit);
+        };
+        Ok(Annotated {
+            time,
+            load: u8::of_value(alloc, load)?,
+        })
+    }
+}
+
+impl<'a> HoldsValues<'a> for LastSlot {
+    fn of_values(alloc: Global, time: u64, values: &'a [FieldValue]) -> Result<LastSlot, Unheld> {
+        let [number] = values else {
+            return Err(Unheld::Unfit);
+        };
+        Ok(LastSlot {
+            time,
+            number: u16::of_value(alloc, number)?,
+        })
+    }
+}
+
+impl<'a> HoldsValues<'a> for ByName {
+    fn of_values(_: Global, time: u64, values: &'a [FieldValue]) -> Result<ByName, Unheld> {
+        match values {
+            [] => Ok(ByName { time }),
+            _ => Err(Unheld::Unfit),
+        }
+    }
+}
+
+impl<'a> HoldsValues<'a> for Dynamic {
+    fn of_values(alloc: Global, time: u64, values: &'a [FieldValue]) -> Result<Dynamic, Unheld> {
+        let [items, table] = values else {
+            return Err(Unheld::Unfit);
+        };
+        Ok(Dynamic {
+            time,
+            items: items.clone(alloc)?,
+            table: table.clone(alloc)?,
+        })
+    }
+}
+
+impl<'a> HoldsValues<'a> for PollAgain {
+    fn of_values(alloc: Global, time: u64, values: &'a [FieldValue]) -> Result<PollAgain, Unheld> {
+        let [worker, core] = values else {
+            return Err(Unheld::Unfit);
+        };
+        Ok(PollAgain {
+            time,
+            worker: u64::of_value(alloc, worker)?,
+            core: u8::of_value(alloc, core)?,
+        })
+    }
+}
+
+impl<'a> HoldsValues<'a> for PollNoted {
+    fn of_values(alloc: Global, time: u64, values: &'a [FieldValue]) -> Result<PollNoted, Unheld> {
+        let [worker, cpu, label] = values else {
+            return Err(Unheld::Unfit);
+        };
+        Ok(PollNoted {
+            time,
+            worker: u64::of_value(alloc, worker)?,
+            cpu: Option::<u32>::of_value(alloc, cpu)?,
+            label: InternedString::of_value(alloc, label)?,
+        })
+    }
+}
+
+impl<'a> HoldsValues<'a> for SlotClash {
+    fn of_values(_: Global, time: u64, values: &'a [FieldValue]) -> Result<SlotClash, Unheld> {
+        match values {
+            [] => Ok(SlotClash { time }),
+            _ => Err(Unheld::Unfit),
+        }
+    }
+}
+
+impl<'a> HoldsValues<'a> for AlsoByName {
+    fn of_values(alloc: Global, time: u64, values: &'a [FieldValue]) -> Result<AlsoByName, Unheld> {
+        let [amount] = values else {
+            return Err(Unheld::Unfit);
+        };
+        Ok(AlsoByName {
+            time,
+            amount: i64::of_value(alloc, amount)?,
+        })
+    }
+}
+
+impl<'a> HoldsValues<'a> for Nameless {
+    fn of_values(alloc: Global, time: u64, values: &'a [FieldValue]) -> Result<Nameless, Unheld> {
+        let [flag] = values else {
+            return Err(Unheld::Unfit);
+        };
+        Ok(Nameless {
+            time,
+            flag: bool::of_value(alloc, flag)?,
+        })
+    }
+}
+
+impl<'a> HoldsValues<'a> for Numbers {
+    fn of_values(alloc: Global, time: u64, values: &'a [FieldValue]) -> Result<Numbers, Unheld> {
+        let [byte, short, word, long, signed, real, flag] = values else {
+            return Err(Unheld::Unfit);
+        };
+        Ok(Numbers {
+            time,
+            byte: u8::of_value(alloc, byte)?,
+            short: u16::of_value(alloc, short)?,
+            word: u32::of_value(alloc, word)?,
+            long: u64::of_value(alloc, long)?,
+            signed: i64::of_value(alloc, signed)?,
+            real: F64Bits::of_value(alloc, real)?,
+            flag: bool::of_value(alloc, flag)?,
+        })
+    }
+}
+
+impl<'a> HoldsValues<'a> for Borrowed<'a> {
+    fn of_values(
+        alloc: Global,
+        time: u64,
+        values: &'a [FieldValue],
+    ) -> Result<Borrowed<'a>, Unheld> {
+        let [path, body, note, rest] = values else {
+            return Err(Unheld::Unfit);
+        };
+        Ok(Borrowed {
+            time,
+            path: StrField::of_value(alloc, path)?,
+            body: BytesField::of_value(alloc, body)?,
+            note: Option::<StrField>::of_value(alloc, note)?,
+            rest: Option::<BytesField>::of_value(alloc, rest)?,
+        })
+    }
+}

@@ -1,0 +1,41 @@
+-- Fields that are appended one after another.
+use Rattle.std.proofs.Common.{◌≡◌, ℕ, Bool, true, false, ◌&&◌, List, [], ◌∷◌, ◌++◌, Result, Ok, Err, refl, sym, ap, subst, ◌∙◌, append_assoc, append-nil}
+use Rattle.trace_values.specs.declared.types.field_type.FieldType.{FieldType}
+use Rattle.trace_values.specs.declared.leb128.error.EncodeError.{EncodeError}
+use Rattle.trace_values.specs.declared.leb128.error.EncodeError.TheVariants as errors
+use Rattle.trace_values.specs.Values.{Value}
+use Rattle.trace_values.specs.Spelling.{fits_field, field_spelling, all_fit, fields_spelling}
+use Rattle.trace_values.specs.TraceFields.{Refuses, AppendsValue}
+use Rattle.trace_writer.specs.EventTypes.{RefusesFields, AppendsFitting}
+
+and_is : (b c : Bool) → b ≡ true → (b && c) ≡ c
+and_is true c e = refl
+and_is false c e = absurd cc
+
+and_true_is : (b c : Bool) → b ≡ c → (b && true) ≡ c
+and_true_is true c e = e
+and_true_is false c e = e
+
+last_refused : (b : Bool) (e : EncodeError) → Refuses b e → RefusesFields (b && true) e
+last_refused b (errors.Misfit n) h = (h.0, and_true_is b false h.1)
+last_refused b errors.OutOfMemory h = tt
+last_refused b errors.Conflict h = absurd h
+last_refused b errors.ValueCount h = absurd h
+last_refused b errors.TooLong h = absurd h
+last_refused b errors.IdsUsedUp h = absurd h
+last_refused b errors.SlotTaken h = absurd h
+last_refused b errors.SlotUntimed h = absurd h
+last_refused b errors.ByteCount h = absurd h
+last_refused b (errors.Writer k) h = absurd h
+last_refused b errors.Failed h = absurd h
+
+-- the last field
+pub last_field : (t : FieldType) (v : Value) (old new : List ℕ) (r : Result (Unit {0}) EncodeError) → AppendsValue t v old new r → AppendsFitting (all_fit (t ∷ []) (v ∷ [])) (fields_spelling (t ∷ []) (v ∷ [])) old new r
+last_field t v old new (Ok u) h = (and_true_is (fits_field t v) true h.0, h.1 ∙ ap (λ (b : List ℕ). old ++ b) (sym (append-nil (field_spelling t v))))
+last_field t v old new (Err e) h = last_refused (fits_field t v) e h.0
+
+-- a field before others
+pub next_field : (t : FieldType) (v : Value) (ts : List FieldType) (vs : List Value) (old mid new : List ℕ) (r : Result (Unit {0}) EncodeError) → (fits_field t v ≡ true) × (mid ≡ old ++ field_spelling t v) → AppendsFitting (all_fit ts vs) (fields_spelling ts vs) mid new r → AppendsFitting (all_fit (t ∷ ts) (v ∷ vs)) (fields_spelling (t ∷ ts) (v ∷ vs)) old new r
+next_field t v ts vs old mid new (Ok u) h k =
+    (and_is (fits_field t v) (all_fit ts vs) h.0 ∙ k.0, k.1 ∙ ap (λ (b : List ℕ). b ++ fields_spelling ts vs) h.1 ∙ append_assoc old (field_spelling t v) (fields_spelling ts vs))
+next_field t v ts vs old mid new (Err e) h k = subst (λ (b : Bool). RefusesFields b e) (sym (and_is (fits_field t v) (all_fit ts vs) h.0)) k

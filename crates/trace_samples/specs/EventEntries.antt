@@ -1,0 +1,132 @@
+-- The schemas of the sample event types.
+use Rattle.std.specs.Prelude.{ℕ, List, [], ◌∷◌, codes}
+use Rattle.trace_values.specs.declared.types.field_type.FieldType.{FieldType}
+use Rattle.trace_values.specs.declared.types.field_type.FieldType.TheVariants as types
+use Rattle.trace_wire.specs.Schemas.{Field, Annotation, Entry}
+
+-- a field of this name and type
+abbrev pub field : List ℕ → FieldType → Field
+field name kind = record { name = name; kind = kind }
+
+-- a key and a value for the field of this index
+abbrev pub note : ℕ → List ℕ → List ℕ → Annotation
+note index key value = record { index = index; key = key; value = value }
+
+-- a schema without annotations
+abbrev pub entry : List ℕ → List Field → Entry
+entry name fields = record { name = name; fields = fields; annotations = [] }
+
+-- ---- the schemas of the types
+
+abbrev pub fast_slot : Entry
+fast_slot = entry (codes "FastSlot") []
+
+abbrev pub other : Entry
+other = entry (codes "Other") []
+
+abbrev pub last_slot : Entry
+last_slot = entry (codes "LastSlot") (field (codes "number") types.U16 ∷ [])
+
+abbrev pub annotated : Entry
+annotated = record {
+  name = codes "Annotated";
+  fields = field (codes "load") types.U8 ∷ [];
+  annotations = note 0 (codes "unit") (codes "ns")
+      ∷ note 65535 (codes "") (codes "") ∷ [];
+}
+
+abbrev pub also : Entry
+also = entry (codes "Also") (field (codes "amount") types.I64 ∷ [])
+
+abbrev pub nameless : Entry
+nameless = entry (codes "") (field (codes "") types.Bool ∷ [])
+
+abbrev pub poll : Entry
+poll = entry (codes "Poll") (field (codes "worker") types.Varint ∷ field (codes "cpu") types.OptionalU32
+    ∷ field (codes "label") types.PooledString ∷ [])
+
+abbrev pub poll_again : Entry
+poll_again = entry (codes "Poll") (field (codes "worker") types.Varint ∷ field (codes "core") types.U8 ∷ [])
+
+abbrev pub poll_noted : Entry
+poll_noted = record {
+  name = codes "Poll";
+  fields = field (codes "worker") types.Varint ∷ field (codes "cpu") types.OptionalU32
+      ∷ field (codes "label") types.PooledString ∷ [];
+  annotations = note 1 (codes "unit") (codes "index") ∷ [];
+}
+
+abbrev pub texts_entry : Entry
+texts_entry = entry (codes "Texts") (field (codes "text") types.String ∷ field (codes "blob") types.Bytes
+    ∷ field (codes "pairs") types.StringMap ∷ [])
+
+abbrev pub borrowed : Entry
+borrowed = entry (codes "Borrowed") (field (codes "path") types.String ∷ field (codes "body") types.Bytes
+    ∷ field (codes "note") types.OptionalString ∷ field (codes "rest") types.OptionalBytes ∷ [])
+
+abbrev pub stacks : Entry
+stacks = entry (codes "Stacks") (field (codes "frames") types.StackFrames ∷ field (codes "stack") types.PooledStackFrames ∷ [])
+
+abbrev pub dynamic : Entry
+dynamic = entry (codes "Dynamic") (field (codes "items") types.DynamicList ∷ field (codes "table") types.DynamicMap ∷ [])
+
+-- the fields of `Numbers`, and those from one on
+abbrev pub numbers_fields_6 : List Field
+numbers_fields_6 = field (codes "flag") types.Bool ∷ []
+
+abbrev pub numbers_fields_3 : List Field
+numbers_fields_3 = field (codes "long") types.Varint ∷ field (codes "signed") types.I64 ∷ field (codes "real") types.F64 ∷ numbers_fields_6
+
+abbrev pub numbers_fields : List Field
+numbers_fields = field (codes "byte") types.U8 ∷ field (codes "short") types.U16 ∷ field (codes "word") types.U32 ∷ numbers_fields_3
+
+abbrev pub numbers : Entry
+numbers = entry (codes "Numbers") numbers_fields
+
+-- the fields of `Options`, and those from one on
+abbrev pub options_fields_12 : List Field
+options_fields_12 = field (codes "pairs") types.OptionalStringMap ∷ []
+
+abbrev pub options_fields_9 : List Field
+options_fields_9 = field (codes "frames") types.OptionalStackFrames ∷ field (codes "label") types.OptionalPooledString
+    ∷ field (codes "stack") types.OptionalPooledStackFrames ∷ options_fields_12
+
+abbrev pub options_fields_6 : List Field
+options_fields_6 = field (codes "flag") types.OptionalBool ∷ field (codes "text") types.OptionalString
+    ∷ field (codes "blob") types.OptionalBytes ∷ options_fields_9
+
+abbrev pub options_fields_3 : List Field
+options_fields_3 = field (codes "long") types.OptionalVarint ∷ field (codes "signed") types.OptionalI64
+    ∷ field (codes "real") types.OptionalF64 ∷ options_fields_6
+
+abbrev pub options_fields : List Field
+options_fields = field (codes "byte") types.OptionalU8 ∷ field (codes "short") types.OptionalU16 ∷ field (codes "word") types.OptionalU32
+    ∷ options_fields_3
+
+abbrev pub options : Entry
+options = entry (codes "Options") options_fields
+
+-- the fields of `Wide`, and those from one on
+abbrev pub wide_fields_18 : List Field
+wide_fields_18 = field (codes "v18") types.Varint ∷ field (codes "v19") types.Varint ∷ []
+
+abbrev pub wide_fields_15 : List Field
+wide_fields_15 = field (codes "v15") types.Varint ∷ field (codes "v16") types.Varint ∷ field (codes "v17") types.Varint ∷ wide_fields_18
+
+abbrev pub wide_fields_12 : List Field
+wide_fields_12 = field (codes "v12") types.Varint ∷ field (codes "v13") types.Varint ∷ field (codes "v14") types.Varint ∷ wide_fields_15
+
+abbrev pub wide_fields_9 : List Field
+wide_fields_9 = field (codes "v9") types.Varint ∷ field (codes "v10") types.Varint ∷ field (codes "v11") types.Varint ∷ wide_fields_12
+
+abbrev pub wide_fields_6 : List Field
+wide_fields_6 = field (codes "v6") types.Varint ∷ field (codes "v7") types.Varint ∷ field (codes "v8") types.Varint ∷ wide_fields_9
+
+abbrev pub wide_fields_3 : List Field
+wide_fields_3 = field (codes "v3") types.Varint ∷ field (codes "v4") types.Varint ∷ field (codes "v5") types.Varint ∷ wide_fields_6
+
+abbrev pub wide_fields : List Field
+wide_fields = field (codes "v0") types.Varint ∷ field (codes "v1") types.Varint ∷ field (codes "v2") types.Varint ∷ wide_fields_3
+
+abbrev pub wide : Entry
+wide = entry (codes "Wide") wide_fields

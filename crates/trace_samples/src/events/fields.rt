@@ -1,0 +1,150 @@
+//! Event types with fields of each type.
+
+ghost use Rattle.std.specs.Prelude.{[], refl, string_bytes, ◌∷◌, ◌≡◌};
+ghost use Rattle.std.specs.Cmp.Lexicographic.{pointwise};
+ghost use Rattle.trace_values.specs.Values.{bytes, pooled_stack, stack, text, texts};
+ghost use Rattle.trace_values.specs.TraceFields.{string_pairs};
+ghost use Rattle.trace_wire.specs.Schemas.{same_field};
+ghost use Rattle.trace_samples.specs.EventEntries.{stacks, texts_entry};
+
+use std::alloc::{AllocError, Global};
+use trace_values::leb128::EncodeError;
+use trace_values::types::{EventEncoder, FieldType, InternedStackFrames, StackFrames, TraceField};
+use trace_wire::schema::{FieldDef, SchemaEntry};
+use trace_writer::event::{TraceEvent, is_field};
+
+/// A text, bytes and a string map, of slot 7.
+#[derive(Drop)]
+pub struct Texts {
+    /// The time in nanoseconds.
+    pub time: u64,
+    pub text: String,
+    pub blob: Vec<u8>,
+    pub pairs: Vec<(String, String)>,
+}
+
+impl TraceEvent for Texts {
+    ghost slot = { 7 };
+
+    ghost entry = { texts_entry };
+
+    ghost time = { λ e. e.time };
+
+    ghost values = { λ e. text (string_bytes e.text) ∷ bytes e.blob.items ∷ texts (string_pairs e.pairs.items) ∷ [] };
+
+    ghost one_each = { λ _. refl };
+
+    fn type_slot() -> u16 {
+        7
+    }
+
+    fn event_name() -> &'static str {
+        "Texts"
+    }
+
+    fn field_defs(alloc: Global) -> Result<Vec<FieldDef>, AllocError> {
+        let mut fields = Vec::new(alloc);
+        fields.push(FieldDef::new(alloc, "text", FieldType::String)?)?;
+        fields.push(FieldDef::new(alloc, "blob", FieldType::Bytes)?)?;
+        fields.push(FieldDef::new(alloc, "pairs", FieldType::StringMap)?)?;
+        Ok(fields)
+    }
+
+    fn schema_entry(alloc: Global) -> Result<SchemaEntry, AllocError> {
+        let fields = Self::field_defs(alloc)?;
+        SchemaEntry::from_parts(alloc, "Texts", fields, Vec::new(alloc))
+    }
+
+    fn is_entry(other: &SchemaEntry) -> bool {
+        other.name() == "Texts"
+            && (are_texts_entry_fields(other.fields()) && other.annotations().is_empty())
+    }
+
+    fn timestamp(&self) -> u64 {
+        self.time
+    }
+
+    fn encode_fields(&self, enc: &mut EventEncoder<'_>) -> Result<(), EncodeError> {
+        self.text.encode(enc)?;
+        self.blob.encode(enc)?;
+        self.pairs.encode(enc)
+    }
+}
+
+/// Whether these are the fields of `Texts`.
+fn are_texts_entry_fields(fields: &[FieldDef]) -> bool
+    ensures { result ≡ pointwise same_field fields.now texts_entry.fields }
+{
+    match fields {
+        [text, blob, pairs] => is_field(text, "text", FieldType::String)
+            && (is_field(blob, "blob", FieldType::Bytes)
+                && is_field(pairs, "pairs", FieldType::StringMap)),
+        _ => false,
+    }
+}
+
+/// A stack, and the id of one, of slot 0.
+#[derive(Drop)]
+pub struct Stacks {
+    /// The time in nanoseconds.
+    pub time: u64,
+    pub frames: StackFrames,
+    pub stack: InternedStackFrames,
+}
+
+impl TraceEvent for Stacks {
+    ghost slot = { 0 };
+
+    ghost entry = { stacks };
+
+    ghost time = { λ e. e.time };
+
+    ghost values = { λ e. stack e.frames.0.items ∷ pooled_stack e.stack.0 ∷ [] };
+
+    ghost one_each = { λ _. refl };
+
+    fn type_slot() -> u16 {
+        0
+    }
+
+    fn event_name() -> &'static str {
+        "Stacks"
+    }
+
+    fn field_defs(alloc: Global) -> Result<Vec<FieldDef>, AllocError> {
+        let mut fields = Vec::new(alloc);
+        fields.push(FieldDef::new(alloc, "frames", FieldType::StackFrames)?)?;
+        fields.push(FieldDef::new(alloc, "stack", FieldType::PooledStackFrames)?)?;
+        Ok(fields)
+    }
+
+    fn schema_entry(alloc: Global) -> Result<SchemaEntry, AllocError> {
+        let fields = Self::field_defs(alloc)?;
+        SchemaEntry::from_parts(alloc, "Stacks", fields, Vec::new(alloc))
+    }
+
+    fn is_entry(other: &SchemaEntry) -> bool {
+        other.name() == "Stacks"
+            && (are_stacks_fields(other.fields()) && other.annotations().is_empty())
+    }
+
+    fn timestamp(&self) -> u64 {
+        self.time
+    }
+
+    fn encode_fields(&self, enc: &mut EventEncoder<'_>) -> Result<(), EncodeError> {
+        self.frames.encode(enc)?;
+        self.stack.encode(enc)
+    }
+}
+
+/// Whether these are the fields of `Stacks`.
+fn are_stacks_fields(fields: &[FieldDef]) -> bool
+    ensures { result ≡ pointwise same_field fields.now stacks.fields }
+{
+    match fields {
+        [frames, stack] => is_field(frames, "frames", FieldType::StackFrames)
+            && is_field(stack, "stack", FieldType::PooledStackFrames),
+        _ => false,
+    }
+}

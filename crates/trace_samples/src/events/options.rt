@@ -1,0 +1,173 @@
+//! An event type whose fields may all be absent.
+
+ghost use Rattle.std.specs.Prelude.{[], refl, string_bytes, ◌∷◌, ◌≡◌};
+ghost use Rattle.std.specs.Cmp.Lexicographic.{pointwise};
+ghost use Rattle.trace_values.specs.Values.{boolean, bytes, float, integer, number, pooled_stack, pooled_text, stack, text, texts};
+ghost use Rattle.trace_values.specs.TraceFields.{string_pairs, value_of_option};
+ghost use Rattle.trace_wire.specs.Schemas.{same_field};
+ghost use Rattle.trace_samples.specs.EventEntries.{options, options_fields, options_fields_3, options_fields_6, options_fields_9, options_fields_12};
+
+use std::alloc::{AllocError, Global};
+use trace_values::leb128::EncodeError;
+use trace_values::types::{
+    EventEncoder, F64Bits, FieldType, InternedStackFrames, InternedString, StackFrames, TraceField,
+};
+use trace_wire::schema::{FieldDef, SchemaEntry};
+use trace_writer::event::{TraceEvent, is_field};
+
+/// A field that may be absent of each type, of slot 0.
+#[derive(Drop)]
+pub struct Options {
+    /// The time in nanoseconds.
+    pub time: u64,
+    pub byte: Option<u8>,
+    pub short: Option<u16>,
+    pub word: Option<u32>,
+    pub long: Option<u64>,
+    pub signed: Option<i64>,
+    pub real: Option<F64Bits>,
+    pub flag: Option<bool>,
+    pub text: Option<String>,
+    pub blob: Option<Vec<u8>>,
+    pub frames: Option<StackFrames>,
+    pub label: Option<InternedString>,
+    pub stack: Option<InternedStackFrames>,
+    pub pairs: Option<Vec<(String, String)>>,
+}
+
+impl TraceEvent for Options {
+    ghost slot = { 0 };
+
+    ghost entry = { options };
+
+    ghost time = { λ e. e.time };
+
+    ghost values = { λ e. value_of_option number e.byte ∷ value_of_option number e.short ∷ value_of_option number e.word
+        ∷ value_of_option number e.long ∷ value_of_option integer e.signed ∷ value_of_option (λ x. float x.0) e.real
+        ∷ value_of_option boolean e.flag ∷ value_of_option (λ x. text (string_bytes x)) e.text ∷ value_of_option (λ x. bytes x.items) e.blob
+        ∷ value_of_option (λ x. stack x.0.items) e.frames ∷ value_of_option (λ x. pooled_text x.0) e.label ∷ value_of_option (λ x. pooled_stack x.0) e.stack
+        ∷ value_of_option (λ x. texts (string_pairs x.items)) e.pairs ∷ [] };
+
+    ghost one_each = { λ _. refl };
+
+    fn type_slot() -> u16 {
+        0
+    }
+
+    fn event_name() -> &'static str {
+        "Options"
+    }
+
+    fn field_defs(alloc: Global) -> Result<Vec<FieldDef>, AllocError> {
+        let mut fields = Vec::new(alloc);
+        fields.push(FieldDef::new(alloc, "byte", FieldType::OptionalU8)?)?;
+        fields.push(FieldDef::new(alloc, "short", FieldType::OptionalU16)?)?;
+        fields.push(FieldDef::new(alloc, "word", FieldType::OptionalU32)?)?;
+        fields.push(FieldDef::new(alloc, "long", FieldType::OptionalVarint)?)?;
+        fields.push(FieldDef::new(alloc, "signed", FieldType::OptionalI64)?)?;
+        fields.push(FieldDef::new(alloc, "real", FieldType::OptionalF64)?)?;
+        fields.push(FieldDef::new(alloc, "flag", FieldType::OptionalBool)?)?;
+        fields.push(FieldDef::new(alloc, "text", FieldType::OptionalString)?)?;
+        fields.push(FieldDef::new(alloc, "blob", FieldType::OptionalBytes)?)?;
+        fields.push(FieldDef::new(alloc, "frames", FieldType::OptionalStackFrames)?)?;
+        fields.push(FieldDef::new(alloc, "label", FieldType::OptionalPooledString)?)?;
+        fields.push(FieldDef::new(alloc, "stack", FieldType::OptionalPooledStackFrames)?)?;
+        fields.push(FieldDef::new(alloc, "pairs", FieldType::OptionalStringMap)?)?;
+        Ok(fields)
+    }
+
+    fn schema_entry(alloc: Global) -> Result<SchemaEntry, AllocError> {
+        let fields = Self::field_defs(alloc)?;
+        SchemaEntry::from_parts(alloc, "Options", fields, Vec::new(alloc))
+    }
+
+    fn is_entry(other: &SchemaEntry) -> bool {
+        other.name() == "Options"
+            && (are_options_fields(other.fields()) && other.annotations().is_empty())
+    }
+
+    fn timestamp(&self) -> u64 {
+        self.time
+    }
+
+    fn encode_fields(&self, enc: &mut EventEncoder<'_>) -> Result<(), EncodeError> {
+        self.byte.encode(enc)?;
+        self.short.encode(enc)?;
+        self.word.encode(enc)?;
+        self.long.encode(enc)?;
+        self.signed.encode(enc)?;
+        self.real.encode(enc)?;
+        self.flag.encode(enc)?;
+        self.text.encode(enc)?;
+        self.blob.encode(enc)?;
+        self.frames.encode(enc)?;
+        self.label.encode(enc)?;
+        self.stack.encode(enc)?;
+        self.pairs.encode(enc)
+    }
+}
+
+/// Whether these are the fields of `Options`.
+fn are_options_fields(fields: &[FieldDef]) -> bool
+    ensures { result ≡ pointwise same_field fields.now options_fields }
+{
+    match fields {
+        [byte, short, word, rest @ ..] => is_field(byte, "byte", FieldType::OptionalU8)
+            && (is_field(short, "short", FieldType::OptionalU16)
+                && (is_field(word, "word", FieldType::OptionalU32)
+                    && are_options_fields_from_3(rest))),
+        _ => false,
+    }
+}
+
+/// Whether these are the fields of `Options` from the one of index 3 on.
+fn are_options_fields_from_3(fields: &[FieldDef]) -> bool
+    ensures { result ≡ pointwise same_field fields.now options_fields_3 }
+{
+    match fields {
+        [long, signed, real, rest @ ..] => is_field(long, "long", FieldType::OptionalVarint)
+            && (is_field(signed, "signed", FieldType::OptionalI64)
+                && (is_field(real, "real", FieldType::OptionalF64)
+                    && are_options_fields_from_6(rest))),
+        _ => false,
+    }
+}
+
+/// Whether these are the fields of `Options` from the one of index 6 on.
+fn are_options_fields_from_6(fields: &[FieldDef]) -> bool
+    ensures { result ≡ pointwise same_field fields.now options_fields_6 }
+{
+    match fields {
+        [flag, text, blob, rest @ ..] => is_field(flag, "flag", FieldType::OptionalBool)
+            && (is_field(text, "text", FieldType::OptionalString)
+                && (is_field(blob, "blob", FieldType::OptionalBytes)
+                    && are_options_fields_from_9(rest))),
+        _ => false,
+    }
+}
+
+/// Whether these are the fields of `Options` from the one of index 9 on.
+fn are_options_fields_from_9(fields: &[FieldDef]) -> bool
+    ensures { result ≡ pointwise same_field fields.now options_fields_9 }
+{
+    match fields {
+        [frames, label, stack, rest @ ..] => is_field(
+            frames,
+            "frames",
+            FieldType::OptionalStackFrames,
+        ) && (is_field(label, "label", FieldType::OptionalPooledString)
+            && (is_field(stack, "stack", FieldType::OptionalPooledStackFrames)
+                && are_options_fields_from_12(rest))),
+        _ => false,
+    }
+}
+
+/// Whether these are the fields of `Options` from the one of index 12 on.
+fn are_options_fields_from_12(fields: &[FieldDef]) -> bool
+    ensures { result ≡ pointwise same_field fields.now options_fields_12 }
+{
+    match fields {
+        [pairs] => is_field(pairs, "pairs", FieldType::OptionalStringMap),
+        _ => false,
+    }
+}

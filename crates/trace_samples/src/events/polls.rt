@@ -1,0 +1,220 @@
+//! Event types of one name.
+
+ghost use Rattle.std.specs.Prelude.{[], refl, ◌∷◌, ◌≡◌};
+ghost use Rattle.std.specs.Cmp.Lexicographic.{pointwise};
+ghost use Rattle.trace_values.specs.Values.{number, pooled_text};
+ghost use Rattle.trace_values.specs.TraceFields.{value_of_option};
+ghost use Rattle.trace_wire.specs.Schemas.{same_field, same_annotation};
+ghost use Rattle.trace_samples.specs.EventEntries.{poll, poll_again, poll_noted};
+
+use std::alloc::{AllocError, Global};
+use trace_values::leb128::EncodeError;
+use trace_values::types::{EventEncoder, FieldType, InternedString, TraceField};
+use trace_wire::schema::{FieldAnnotation, FieldDef, SchemaEntry};
+use trace_writer::event::{TraceEvent, is_annotation, is_field};
+
+/// A poll of a task by a worker, on a core where it is known, of slot 0.
+#[derive(Drop)]
+pub struct Poll {
+    /// The time in nanoseconds.
+    pub time: u64,
+    pub worker: u64,
+    pub cpu: Option<u32>,
+    pub label: InternedString,
+}
+
+impl TraceEvent for Poll {
+    ghost slot = { 0 };
+
+    ghost entry = { poll };
+
+    ghost time = { λ e. e.time };
+
+    ghost values = { λ e. number e.worker ∷ value_of_option number e.cpu ∷ pooled_text e.label.0 ∷ [] };
+
+    ghost one_each = { λ _. refl };
+
+    fn type_slot() -> u16 {
+        0
+    }
+
+    fn event_name() -> &'static str {
+        "Poll"
+    }
+
+    fn field_defs(alloc: Global) -> Result<Vec<FieldDef>, AllocError> {
+        let mut fields = Vec::new(alloc);
+        fields.push(FieldDef::new(alloc, "worker", FieldType::Varint)?)?;
+        fields.push(FieldDef::new(alloc, "cpu", FieldType::OptionalU32)?)?;
+        fields.push(FieldDef::new(alloc, "label", FieldType::PooledString)?)?;
+        Ok(fields)
+    }
+
+    fn schema_entry(alloc: Global) -> Result<SchemaEntry, AllocError> {
+        let fields = Self::field_defs(alloc)?;
+        SchemaEntry::from_parts(alloc, "Poll", fields, Vec::new(alloc))
+    }
+
+    fn is_entry(other: &SchemaEntry) -> bool {
+        other.name() == "Poll"
+            && (are_poll_fields(other.fields()) && other.annotations().is_empty())
+    }
+
+    fn timestamp(&self) -> u64 {
+        self.time
+    }
+
+    fn encode_fields(&self, enc: &mut EventEncoder<'_>) -> Result<(), EncodeError> {
+        self.worker.encode(enc)?;
+        self.cpu.encode(enc)?;
+        self.label.encode(enc)
+    }
+}
+
+/// Whether these are the fields of `Poll`.
+fn are_poll_fields(fields: &[FieldDef]) -> bool
+    ensures { result ≡ pointwise same_field fields.now poll.fields }
+{
+    match fields {
+        [worker, cpu, label] => is_field(worker, "worker", FieldType::Varint)
+            && (is_field(cpu, "cpu", FieldType::OptionalU32)
+                && is_field(label, "label", FieldType::PooledString)),
+        _ => false,
+    }
+}
+
+/// The name of `Poll` with other fields.
+#[derive(Drop)]
+pub struct PollAgain {
+    /// The time in nanoseconds.
+    pub time: u64,
+    pub worker: u64,
+    pub core: u8,
+}
+
+impl TraceEvent for PollAgain {
+    ghost slot = { 0 };
+
+    ghost entry = { poll_again };
+
+    ghost time = { λ e. e.time };
+
+    ghost values = { λ e. number e.worker ∷ number e.core ∷ [] };
+
+    ghost one_each = { λ _. refl };
+
+    fn type_slot() -> u16 {
+        0
+    }
+
+    fn event_name() -> &'static str {
+        "Poll"
+    }
+
+    fn field_defs(alloc: Global) -> Result<Vec<FieldDef>, AllocError> {
+        let mut fields = Vec::new(alloc);
+        fields.push(FieldDef::new(alloc, "worker", FieldType::Varint)?)?;
+        fields.push(FieldDef::new(alloc, "core", FieldType::U8)?)?;
+        Ok(fields)
+    }
+
+    fn schema_entry(alloc: Global) -> Result<SchemaEntry, AllocError> {
+        let fields = Self::field_defs(alloc)?;
+        SchemaEntry::from_parts(alloc, "Poll", fields, Vec::new(alloc))
+    }
+
+    fn is_entry(other: &SchemaEntry) -> bool {
+        other.name() == "Poll"
+            && (are_poll_again_fields(other.fields()) && other.annotations().is_empty())
+    }
+
+    fn timestamp(&self) -> u64 {
+        self.time
+    }
+
+    fn encode_fields(&self, enc: &mut EventEncoder<'_>) -> Result<(), EncodeError> {
+        self.worker.encode(enc)?;
+        self.core.encode(enc)
+    }
+}
+
+/// Whether these are the fields of `PollAgain`.
+fn are_poll_again_fields(fields: &[FieldDef]) -> bool
+    ensures { result ≡ pointwise same_field fields.now poll_again.fields }
+{
+    match fields {
+        [worker, core] => is_field(worker, "worker", FieldType::Varint)
+            && is_field(core, "core", FieldType::U8),
+        _ => false,
+    }
+}
+
+/// The name and the fields of `Poll`, and an annotation.
+#[derive(Drop)]
+pub struct PollNoted {
+    /// The time in nanoseconds.
+    pub time: u64,
+    pub worker: u64,
+    pub cpu: Option<u32>,
+    pub label: InternedString,
+}
+
+impl TraceEvent for PollNoted {
+    ghost slot = { 0 };
+
+    ghost entry = { poll_noted };
+
+    ghost time = { λ e. e.time };
+
+    ghost values = { λ e. number e.worker ∷ value_of_option number e.cpu ∷ pooled_text e.label.0 ∷ [] };
+
+    ghost one_each = { λ _. refl };
+
+    fn type_slot() -> u16 {
+        0
+    }
+
+    fn event_name() -> &'static str {
+        "Poll"
+    }
+
+    fn field_defs(alloc: Global) -> Result<Vec<FieldDef>, AllocError> {
+        let mut fields = Vec::new(alloc);
+        fields.push(FieldDef::new(alloc, "worker", FieldType::Varint)?)?;
+        fields.push(FieldDef::new(alloc, "cpu", FieldType::OptionalU32)?)?;
+        fields.push(FieldDef::new(alloc, "label", FieldType::PooledString)?)?;
+        Ok(fields)
+    }
+
+    fn schema_entry(alloc: Global) -> Result<SchemaEntry, AllocError> {
+        let fields = Self::field_defs(alloc)?;
+        let mut notes = Vec::new(alloc);
+        notes.push(FieldAnnotation::new(alloc, 1, "unit", "index")?)?;
+        SchemaEntry::from_parts(alloc, "Poll", fields, notes)
+    }
+
+    fn is_entry(other: &SchemaEntry) -> bool {
+        other.name() == "Poll"
+            && (are_poll_fields(other.fields()) && are_poll_noted_notes(other.annotations()))
+    }
+
+    fn timestamp(&self) -> u64 {
+        self.time
+    }
+
+    fn encode_fields(&self, enc: &mut EventEncoder<'_>) -> Result<(), EncodeError> {
+        self.worker.encode(enc)?;
+        self.cpu.encode(enc)?;
+        self.label.encode(enc)
+    }
+}
+
+/// Whether these are the annotations of `PollNoted`.
+fn are_poll_noted_notes(notes: &[FieldAnnotation]) -> bool
+    ensures { result ≡ pointwise same_annotation notes.now poll_noted.annotations }
+{
+    match notes {
+        [first] => is_annotation(first, 1, "unit", "index"),
+        _ => false,
+    }
+}

@@ -1,0 +1,247 @@
+//! Event types whose slot is their wire id.
+
+ghost use Rattle.std.specs.Prelude.{[], refl, ◌∷◌, ◌≡◌};
+ghost use Rattle.std.specs.Cmp.Lexicographic.{pointwise};
+ghost use Rattle.trace_values.specs.Values.{number};
+ghost use Rattle.trace_wire.specs.Schemas.{same_field, same_annotation};
+ghost use Rattle.trace_samples.specs.EventEntries.{annotated, fast_slot, last_slot, other};
+
+use std::alloc::{AllocError, Global};
+use trace_values::leb128::EncodeError;
+use trace_values::types::{EventEncoder, FieldType, TraceField};
+use trace_wire::schema::{FieldAnnotation, FieldDef, SchemaEntry};
+use trace_writer::event::{TraceEvent, is_annotation, is_field};
+
+/// An event without fields, of slot 5.
+#[derive(Drop)]
+pub struct FastSlot {
+    /// The time in nanoseconds.
+    pub time: u64,
+}
+
+impl TraceEvent for FastSlot {
+    ghost slot = { 5 };
+
+    ghost entry = { fast_slot };
+
+    ghost time = { λ e. e.time };
+
+    ghost values = { λ _. [] };
+
+    ghost one_each = { λ _. refl };
+
+    fn type_slot() -> u16 {
+        5
+    }
+
+    fn event_name() -> &'static str {
+        "FastSlot"
+    }
+
+    fn field_defs(alloc: Global) -> Result<Vec<FieldDef>, AllocError> {
+        Ok(Vec::new(alloc))
+    }
+
+    fn schema_entry(alloc: Global) -> Result<SchemaEntry, AllocError> {
+        let fields = Self::field_defs(alloc)?;
+        SchemaEntry::from_parts(alloc, "FastSlot", fields, Vec::new(alloc))
+    }
+
+    fn is_entry(other: &SchemaEntry) -> bool {
+        other.name() == "FastSlot" && (other.fields().is_empty() && other.annotations().is_empty())
+    }
+
+    fn timestamp(&self) -> u64 {
+        self.time
+    }
+
+    fn encode_fields(&self, _enc: &mut EventEncoder<'_>) -> Result<(), EncodeError> {
+        Ok(())
+    }
+}
+
+/// An event without fields, of the slot of `FastSlot`.
+#[derive(Drop)]
+pub struct SlotClash {
+    /// The time in nanoseconds.
+    pub time: u64,
+}
+
+impl TraceEvent for SlotClash {
+    ghost slot = { 5 };
+
+    ghost entry = { other };
+
+    ghost time = { λ e. e.time };
+
+    ghost values = { λ _. [] };
+
+    ghost one_each = { λ _. refl };
+
+    fn type_slot() -> u16 {
+        5
+    }
+
+    fn event_name() -> &'static str {
+        "Other"
+    }
+
+    fn field_defs(alloc: Global) -> Result<Vec<FieldDef>, AllocError> {
+        Ok(Vec::new(alloc))
+    }
+
+    fn schema_entry(alloc: Global) -> Result<SchemaEntry, AllocError> {
+        let fields = Self::field_defs(alloc)?;
+        SchemaEntry::from_parts(alloc, "Other", fields, Vec::new(alloc))
+    }
+
+    fn is_entry(other: &SchemaEntry) -> bool {
+        other.name() == "Other" && (other.fields().is_empty() && other.annotations().is_empty())
+    }
+
+    fn timestamp(&self) -> u64 {
+        self.time
+    }
+
+    fn encode_fields(&self, _enc: &mut EventEncoder<'_>) -> Result<(), EncodeError> {
+        Ok(())
+    }
+}
+
+/// A number, of the last slot that is a wire id.
+#[derive(Drop)]
+pub struct LastSlot {
+    /// The time in nanoseconds.
+    pub time: u64,
+    pub number: u16,
+}
+
+impl TraceEvent for LastSlot {
+    ghost slot = { 255 };
+
+    ghost entry = { last_slot };
+
+    ghost time = { λ e. e.time };
+
+    ghost values = { λ e. number e.number ∷ [] };
+
+    ghost one_each = { λ _. refl };
+
+    fn type_slot() -> u16 {
+        255
+    }
+
+    fn event_name() -> &'static str {
+        "LastSlot"
+    }
+
+    fn field_defs(alloc: Global) -> Result<Vec<FieldDef>, AllocError> {
+        let mut fields = Vec::new(alloc);
+        fields.push(FieldDef::new(alloc, "number", FieldType::U16)?)?;
+        Ok(fields)
+    }
+
+    fn schema_entry(alloc: Global) -> Result<SchemaEntry, AllocError> {
+        let fields = Self::field_defs(alloc)?;
+        SchemaEntry::from_parts(alloc, "LastSlot", fields, Vec::new(alloc))
+    }
+
+    fn is_entry(other: &SchemaEntry) -> bool {
+        other.name() == "LastSlot"
+            && (are_last_slot_fields(other.fields()) && other.annotations().is_empty())
+    }
+
+    fn timestamp(&self) -> u64 {
+        self.time
+    }
+
+    fn encode_fields(&self, enc: &mut EventEncoder<'_>) -> Result<(), EncodeError> {
+        self.number.encode(enc)
+    }
+}
+
+/// Whether these are the fields of `LastSlot`.
+fn are_last_slot_fields(fields: &[FieldDef]) -> bool
+    ensures { result ≡ pointwise same_field fields.now last_slot.fields }
+{
+    match fields {
+        [number] => is_field(number, "number", FieldType::U16),
+        _ => false,
+    }
+}
+
+/// A load with two annotations, one of them of no field, of slot 9.
+#[derive(Drop)]
+pub struct Annotated {
+    /// The time in nanoseconds.
+    pub time: u64,
+    pub load: u8,
+}
+
+impl TraceEvent for Annotated {
+    ghost slot = { 9 };
+
+    ghost entry = { annotated };
+
+    ghost time = { λ e. e.time };
+
+    ghost values = { λ e. number e.load ∷ [] };
+
+    ghost one_each = { λ _. refl };
+
+    fn type_slot() -> u16 {
+        9
+    }
+
+    fn event_name() -> &'static str {
+        "Annotated"
+    }
+
+    fn field_defs(alloc: Global) -> Result<Vec<FieldDef>, AllocError> {
+        let mut fields = Vec::new(alloc);
+        fields.push(FieldDef::new(alloc, "load", FieldType::U8)?)?;
+        Ok(fields)
+    }
+
+    fn schema_entry(alloc: Global) -> Result<SchemaEntry, AllocError> {
+        let fields = Self::field_defs(alloc)?;
+        let mut notes = Vec::new(alloc);
+        notes.push(FieldAnnotation::new(alloc, 0, "unit", "ns")?)?;
+        notes.push(FieldAnnotation::new(alloc, 65535, "", "")?)?;
+        SchemaEntry::from_parts(alloc, "Annotated", fields, notes)
+    }
+
+    fn is_entry(other: &SchemaEntry) -> bool {
+        other.name() == "Annotated"
+            && (are_annotated_fields(other.fields()) && are_annotated_notes(other.annotations()))
+    }
+
+    fn timestamp(&self) -> u64 {
+        self.time
+    }
+
+    fn encode_fields(&self, enc: &mut EventEncoder<'_>) -> Result<(), EncodeError> {
+        self.load.encode(enc)
+    }
+}
+
+/// Whether these are the fields of `Annotated`.
+fn are_annotated_fields(fields: &[FieldDef]) -> bool
+    ensures { result ≡ pointwise same_field fields.now annotated.fields }
+{
+    match fields {
+        [load] => is_field(load, "load", FieldType::U8),
+        _ => false,
+    }
+}
+
+/// Whether these are the annotations of `Annotated`.
+fn are_annotated_notes(notes: &[FieldAnnotation]) -> bool
+    ensures { result ≡ pointwise same_annotation notes.now annotated.annotations }
+{
+    match notes {
+        [first, second] => is_annotation(first, 0, "unit", "ns")
+            && is_annotation(second, 65535, "", ""),
+        _ => false,
+    }
+}

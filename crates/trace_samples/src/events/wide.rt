@@ -1,0 +1,211 @@
+//! An event type with many fields.
+
+ghost use Rattle.std.specs.Prelude.{[], refl, ◌∷◌, ◌≡◌};
+ghost use Rattle.std.specs.Cmp.Lexicographic.{pointwise};
+ghost use Rattle.trace_values.specs.Values.{number};
+ghost use Rattle.trace_wire.specs.Schemas.{same_field};
+ghost use Rattle.trace_samples.specs.EventEntries.{wide, wide_fields, wide_fields_3, wide_fields_6, wide_fields_9, wide_fields_12, wide_fields_15, wide_fields_18};
+
+use std::alloc::{AllocError, Global};
+use trace_values::leb128::EncodeError;
+use trace_values::types::{EventEncoder, FieldType, TraceField};
+use trace_wire::schema::{FieldDef, SchemaEntry};
+use trace_writer::event::{TraceEvent, is_field};
+
+/// Twenty numbers, of slot 0.
+#[derive(Drop)]
+pub struct Wide {
+    /// The time in nanoseconds.
+    pub time: u64,
+    pub v0: u64,
+    pub v1: u64,
+    pub v2: u64,
+    pub v3: u64,
+    pub v4: u64,
+    pub v5: u64,
+    pub v6: u64,
+    pub v7: u64,
+    pub v8: u64,
+    pub v9: u64,
+    pub v10: u64,
+    pub v11: u64,
+    pub v12: u64,
+    pub v13: u64,
+    pub v14: u64,
+    pub v15: u64,
+    pub v16: u64,
+    pub v17: u64,
+    pub v18: u64,
+    pub v19: u64,
+}
+
+impl TraceEvent for Wide {
+    ghost slot = { 0 };
+
+    ghost entry = { wide };
+
+    ghost time = { λ e. e.time };
+
+    ghost values = { λ e. number e.v0 ∷ number e.v1 ∷ number e.v2
+        ∷ number e.v3 ∷ number e.v4 ∷ number e.v5
+        ∷ number e.v6 ∷ number e.v7 ∷ number e.v8
+        ∷ number e.v9 ∷ number e.v10 ∷ number e.v11
+        ∷ number e.v12 ∷ number e.v13 ∷ number e.v14
+        ∷ number e.v15 ∷ number e.v16 ∷ number e.v17
+        ∷ number e.v18 ∷ number e.v19 ∷ [] };
+
+    ghost one_each = { λ _. refl };
+
+    fn type_slot() -> u16 {
+        0
+    }
+
+    fn event_name() -> &'static str {
+        "Wide"
+    }
+
+    fn field_defs(alloc: Global) -> Result<Vec<FieldDef>, AllocError> {
+        let mut fields = Vec::new(alloc);
+        fields.push(FieldDef::new(alloc, "v0", FieldType::Varint)?)?;
+        fields.push(FieldDef::new(alloc, "v1", FieldType::Varint)?)?;
+        fields.push(FieldDef::new(alloc, "v2", FieldType::Varint)?)?;
+        fields.push(FieldDef::new(alloc, "v3", FieldType::Varint)?)?;
+        fields.push(FieldDef::new(alloc, "v4", FieldType::Varint)?)?;
+        fields.push(FieldDef::new(alloc, "v5", FieldType::Varint)?)?;
+        fields.push(FieldDef::new(alloc, "v6", FieldType::Varint)?)?;
+        fields.push(FieldDef::new(alloc, "v7", FieldType::Varint)?)?;
+        fields.push(FieldDef::new(alloc, "v8", FieldType::Varint)?)?;
+        fields.push(FieldDef::new(alloc, "v9", FieldType::Varint)?)?;
+        fields.push(FieldDef::new(alloc, "v10", FieldType::Varint)?)?;
+        fields.push(FieldDef::new(alloc, "v11", FieldType::Varint)?)?;
+        fields.push(FieldDef::new(alloc, "v12", FieldType::Varint)?)?;
+        fields.push(FieldDef::new(alloc, "v13", FieldType::Varint)?)?;
+        fields.push(FieldDef::new(alloc, "v14", FieldType::Varint)?)?;
+        fields.push(FieldDef::new(alloc, "v15", FieldType::Varint)?)?;
+        fields.push(FieldDef::new(alloc, "v16", FieldType::Varint)?)?;
+        fields.push(FieldDef::new(alloc, "v17", FieldType::Varint)?)?;
+        fields.push(FieldDef::new(alloc, "v18", FieldType::Varint)?)?;
+        fields.push(FieldDef::new(alloc, "v19", FieldType::Varint)?)?;
+        Ok(fields)
+    }
+
+    fn schema_entry(alloc: Global) -> Result<SchemaEntry, AllocError> {
+        let fields = Self::field_defs(alloc)?;
+        SchemaEntry::from_parts(alloc, "Wide", fields, Vec::new(alloc))
+    }
+
+    fn is_entry(other: &SchemaEntry) -> bool {
+        other.name() == "Wide"
+            && (are_wide_fields(other.fields()) && other.annotations().is_empty())
+    }
+
+    fn timestamp(&self) -> u64 {
+        self.time
+    }
+
+    fn encode_fields(&self, enc: &mut EventEncoder<'_>) -> Result<(), EncodeError> {
+        self.v0.encode(enc)?;
+        self.v1.encode(enc)?;
+        self.v2.encode(enc)?;
+        self.v3.encode(enc)?;
+        self.v4.encode(enc)?;
+        self.v5.encode(enc)?;
+        self.v6.encode(enc)?;
+        self.v7.encode(enc)?;
+        self.v8.encode(enc)?;
+        self.v9.encode(enc)?;
+        self.v10.encode(enc)?;
+        self.v11.encode(enc)?;
+        self.v12.encode(enc)?;
+        self.v13.encode(enc)?;
+        self.v14.encode(enc)?;
+        self.v15.encode(enc)?;
+        self.v16.encode(enc)?;
+        self.v17.encode(enc)?;
+        self.v18.encode(enc)?;
+        self.v19.encode(enc)
+    }
+}
+
+/// Whether these are the fields of `Wide`.
+fn are_wide_fields(fields: &[FieldDef]) -> bool
+    ensures { result ≡ pointwise same_field fields.now wide_fields }
+{
+    match fields {
+        [v0, v1, v2, rest @ ..] => is_field(v0, "v0", FieldType::Varint)
+            && (is_field(v1, "v1", FieldType::Varint)
+                && (is_field(v2, "v2", FieldType::Varint) && are_wide_fields_from_3(rest))),
+        _ => false,
+    }
+}
+
+/// Whether these are the fields of `Wide` from the one of index 3 on.
+fn are_wide_fields_from_3(fields: &[FieldDef]) -> bool
+    ensures { result ≡ pointwise same_field fields.now wide_fields_3 }
+{
+    match fields {
+        [v3, v4, v5, rest @ ..] => is_field(v3, "v3", FieldType::Varint)
+            && (is_field(v4, "v4", FieldType::Varint)
+                && (is_field(v5, "v5", FieldType::Varint) && are_wide_fields_from_6(rest))),
+        _ => false,
+    }
+}
+
+/// Whether these are the fields of `Wide` from the one of index 6 on.
+fn are_wide_fields_from_6(fields: &[FieldDef]) -> bool
+    ensures { result ≡ pointwise same_field fields.now wide_fields_6 }
+{
+    match fields {
+        [v6, v7, v8, rest @ ..] => is_field(v6, "v6", FieldType::Varint)
+            && (is_field(v7, "v7", FieldType::Varint)
+                && (is_field(v8, "v8", FieldType::Varint) && are_wide_fields_from_9(rest))),
+        _ => false,
+    }
+}
+
+/// Whether these are the fields of `Wide` from the one of index 9 on.
+fn are_wide_fields_from_9(fields: &[FieldDef]) -> bool
+    ensures { result ≡ pointwise same_field fields.now wide_fields_9 }
+{
+    match fields {
+        [v9, v10, v11, rest @ ..] => is_field(v9, "v9", FieldType::Varint)
+            && (is_field(v10, "v10", FieldType::Varint)
+                && (is_field(v11, "v11", FieldType::Varint) && are_wide_fields_from_12(rest))),
+        _ => false,
+    }
+}
+
+/// Whether these are the fields of `Wide` from the one of index 12 on.
+fn are_wide_fields_from_12(fields: &[FieldDef]) -> bool
+    ensures { result ≡ pointwise same_field fields.now wide_fields_12 }
+{
+    match fields {
+        [v12, v13, v14, rest @ ..] => is_field(v12, "v12", FieldType::Varint)
+            && (is_field(v13, "v13", FieldType::Varint)
+                && (is_field(v14, "v14", FieldType::Varint) && are_wide_fields_from_15(rest))),
+        _ => false,
+    }
+}
+
+/// Whether these are the fields of `Wide` from the one of index 15 on.
+fn are_wide_fields_from_15(fields: &[FieldDef]) -> bool
+    ensures { result ≡ pointwise same_field fields.now wide_fields_15 }
+{
+    match fields {
+        [v15, v16, v17, rest @ ..] => is_field(v15, "v15", FieldType::Varint)
+            && (is_field(v16, "v16", FieldType::Varint)
+                && (is_field(v17, "v17", FieldType::Varint) && are_wide_fields_from_18(rest))),
+        _ => false,
+    }
+}
+
+/// Whether these are the fields of `Wide` from the one of index 18 on.
+fn are_wide_fields_from_18(fields: &[FieldDef]) -> bool
+    ensures { result ≡ pointwise same_field fields.now wide_fields_18 }
+{
+    match fields {
+        [v18, v19] => is_field(v18, "v18", FieldType::Varint)
+            && is_field(v19, "v19", FieldType::Varint),
+        _ => false,
+    }
+}

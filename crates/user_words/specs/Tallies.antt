@@ -1,0 +1,17 @@
+-- A sink that counts events.
+use Rattle.std.specs.Prelude.{◌≡◌, ◌+◌, List, [], length, Result, Ok, Err}
+use Rattle.dial9_trace_format.specs.Words.{DecoderState, Goes, rest_of, borrowed, Frame, ShownEvent, events_of}
+use Rattle.user_words.specs.declared.tally.Tally.{Tally}
+use Rattle.user_words.specs.declared.tally.Full.{Full}
+
+-- one more, unless no more can be counted
+abbrev pub tallies : Tally → ShownEvent → Result (Unit {0}) Full → Tally → Type 0
+tallies s e (Ok u) t = t.count ≡ s.count + 1
+tallies s e (Err f) t = (s.count ≡ 18446744073709551615) × (t ≡ s)
+
+-- the frames to the end were read, and their events counted
+pub record TalliesAll (old new : DecoderState) (s t : Tally) : Type 0 where
+  pub frames : List Frame
+  pub goes : Goes borrowed old new frames
+  pub ended : rest_of new ≡ []
+  pub counted : t.count ≡ s.count + length (events_of old.grammar old.pools frames)
