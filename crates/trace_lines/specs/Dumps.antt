@@ -24,14 +24,14 @@ frame_lines false g p frames = item_lines (items frames)
 frame_lines true g p frames = event_lines (events_of g p frames)
 
 -- The last line and the status, where the longest run over bytes of a size ends before the rest. A place is told by the
--- bytes before it: before the rest, or behind the schema that differs from what its wire id stands for.
+-- bytes before it: before the rest, or after the schema that differs from what its wire id stands for.
 abbrev pub IsEnd : Kind → ℕ → Grammar → List ℕ → Ending → ℕ → List ℕ → Type 0
 IsEnd k size last rest Whole status text = (status ≡ 0) × (text ≡ whole_line)
 IsEnd k size last rest Stopped status text = (status ≡ 2) × (text ≡ stopped_line (size - length rest))
 IsEnd k size last rest Conflict status text =
     (id : ℕ) × (shape : Shape) × (after : List ℕ) × Begins k last rest (Schema id shape) after × (status ≡ 3) × (text ≡ conflict_line (size - length after) id)
 
--- the lines behind the first, of bytes that end an input of a size, in a state and with pools: those of the longest run of the
+-- the lines after the first, of bytes that end an input of a size, in a state and with pools: those of the longest run of the
 -- reader, and of its end
 pub record IsDumpFrom (resolve : Bool) (g : Grammar) (p : Pools) (size : ℕ) (bytes : List ℕ) (status : ℕ) (text : List ℕ) : Type 0 where
   pub frames : List Frame
@@ -49,7 +49,7 @@ pub record IsNoDump (input : List ℕ) (status : ℕ) (text : List ℕ) : Type 0
   pub status_is : status ≡ 1
   pub text_is : text ≡ line no_header_line
 
--- the dump of a stream: its version, and the lines of what stands behind the five bytes of its header
+-- the dump of a stream: its version, and the lines of what stands after the five bytes of its header
 pub record IsStreamDump (resolve : Bool) (input : List ℕ) (status : ℕ) (text : List ℕ) : Type 0 where
   pub version : ℕ
   pub header : StartsWith input version

@@ -8,7 +8,7 @@ use Rattle.trace_recordings.proofs.ScriptLemmas.{not_equal}
 use Rattle.trace_recordings.specs.Recordings.{HasNoEmptyLine}
 use Rattle.trace_recordings.specs.Scripts.{lines_of}
 
--- no two line feeds stand side by side, also where one stands behind the text
+-- no two line feeds stand side by side, also where one stands after the text
 abbrev Apart : List ℕ → Type 0
 Apart text = (k : ℕ) → k < length text → get_or text k 0 ≡ 10 → get_or text (suc k) 10 ≡ 10 → ⊥
 

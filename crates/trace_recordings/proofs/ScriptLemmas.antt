@@ -32,7 +32,7 @@ pub record SayFront (text : List ℕ) (calls : List Call) (rest : List ℕ) : Ty
 pub at_start : (text : List ℕ) → SayFront text [] text
 at_start text = record { front = []; said = tt; parts = refl }
 
--- a further line, with more behind it
+-- a further line, with more after it
 pub one_more : (text rest more line : List ℕ) (calls gained : List Call) → SayFront text calls rest → IsFirstLine rest line (Some more) → GainsCall calls gained line → SayFront text gained more
 one_more text rest more line calls gained before first gains = record {
   front = before.front ++ line ∷ [];

@@ -74,7 +74,7 @@ reply_text notes.Silent = codes "-"
 reply_text notes.Reset = codes "reset"
 reply_text (notes.Answered reply) = answer_text reply
 
--- a reply, and how many bytes the encoder had written behind it
+-- a reply, and how many bytes the encoder had written after it
 unfoldable pub reply_line : Note → ℕ → List ℕ
 reply_line note count = reply_text note ++ codes " bytes=" ++ decimal count ++ codes "\n"
 
@@ -105,7 +105,7 @@ defined_in h = record { schemas = h.schemas.entries; types = h.types.entries }
 abbrev pub under : {A : Type 0} → List (ℕ × A) → ℕ → Option A
 under defined handle = lookup (is_at (nat_cmp handle)) defined
 
--- what a call asks of an encoder, behind these definitions
+-- what a call asks of an encoder, after these definitions
 abbrev pub action_of : Defined → Call → Option Action
 action_of defined (Register handle) = option_map (λ e. register e) (under defined.schemas handle)
 action_of defined (Event handle time values) = option_map (λ e. write_event e time (views values.items)) (under defined.schemas handle)
@@ -146,7 +146,7 @@ start = record { state = fresh_state; defined = record { schemas = []; types = [
 abbrev pub playing_of : Player → Playing
 playing_of p = record { state = p.encoder.state; defined = defined_in p.handles; bytes = p.played.bytes.items; replies = string_bytes p.played.replies }
 
--- the line of a reply comes behind the others
+-- the line of a reply comes after the others
 abbrev pub with_reply : Note → Playing → Playing
 with_reply note p = record p { replies = p.replies ++ reply_line note p.state.count }
 
@@ -162,7 +162,7 @@ with_type handle sample p = record p { defined = record p.defined { types = inse
 abbrev pub DefinesType : ℕ → ℕ → Definition → Playing → Playing → Type 0
 DefinesType handle slot definition p q = (sample : Sample) × (is_sample slot (entry_of definition) sample ≡ true) × (q ≡ with_type handle sample p)
 
--- the encoder gives this answer to what a call asks of it, and what it sends comes behind the output
+-- the encoder gives this answer to what a call asks of it, and what it sends comes after the output
 pub record Asks (p : Playing) (call : Call) (reply : Reply) (q : Playing) : Type 0 where
   pub action : Action
   pub asked : action_of p.defined call ≡ Some action
@@ -174,7 +174,7 @@ pub record Asks (p : Playing) (call : Call) (reply : Reply) (q : Playing) : Type
 abbrev pub IsAsked : Playing → Call → Playing → Type 0
 IsAsked p call q = (reply : Reply) × (mid : Playing) × Asks p call reply mid × (q ≡ with_reply (notes.Answered reply) mid)
 
--- a new trace begins behind the output with its header; or its writer failed, and all is as before
+-- a new trace begins after the output with its header; or its writer failed, and all is as before
 abbrev pub Resets : Playing → Note → Playing → Type 0
 Resets p notes.Reset q = q ≡ record p { state = fresh_state; bytes = p.bytes ++ header }
 Resets p (notes.Answered (Refused (errors.Writer kind))) q = q ≡ p

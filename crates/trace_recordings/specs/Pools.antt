@@ -4,7 +4,7 @@ use Rattle.trace_lines.specs.Lines.{quoted, address_list}
 use Rattle.trace_recordings.specs.declared.script.pools.PoolText.{PoolText}
 use Rattle.trace_recordings.specs.declared.script.pools.PoolStack.{PoolStack}
 
--- an id behind a space, and a colon
+-- an id after a space, and a colon
 unfoldable pub id_text : ℕ → List ℕ
 id_text id = codes " " ++ decimal id ++ codes ":"
 

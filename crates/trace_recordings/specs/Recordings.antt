@@ -38,6 +38,6 @@ recording_text r = recording_lines r ++ codes "\n# end\n"
 abbrev pub HasNoEmptyLine : List ℕ → Type 0
 HasNoEmptyLine text = AllByRecursion (λ line. line ≢ []) (lines_of text)
 
--- a file has these recordings, behind its head, which ends with the first empty line
+-- a file has these recordings, after its head, which ends with the first empty line
 abbrev pub IsFile : List Recording → List ℕ → Type 0
 IsFile recordings file = (head : List ℕ) × HasNoEmptyLine head × (file ≡ head ++ (codes "\n\n" ++ flat_map recording_text recordings))

@@ -109,7 +109,7 @@ pub record IsBrokenAt (text : List ℕ) (error : ScriptError) : Type 0 where
 abbrev pub EndsWithReturn : List ℕ → Type 0
 EndsWithReturn line = slice_get line (length line - 1) ≡ Some 13
 
--- the first line of the text, and what stands behind it
+-- the first line of the text, and what stands after it
 abbrev pub IsFirstLine : List ℕ → List ℕ → Option (List ℕ) → Type 0
 IsFirstLine text line None = lines_of text ≡ line ∷ []
 IsFirstLine text line (Some rest) = lines_of text ≡ line ∷ lines_of rest

@@ -88,7 +88,7 @@ fn line_feeds(text: &[u8], place: usize) -> usize {
         .count()
 }
 
-// The line behind this many line feeds, and nothing where the text has not as many.
+// The line after this many line feeds, and nothing where the text has not as many.
 fn line_of(text: &[u8], before: usize) -> &[u8] {
     text.split(|byte| *byte == b'\n').nth(before).unwrap_or(&[])
 }

@@ -25,7 +25,7 @@ use trace_writer::laws::fresh_headline;
 pub struct Played {
     /// The output.
     pub bytes: Vec<u8>,
-    /// A line for each call: the reply, and how many bytes the encoder had written behind it.
+    /// A line for each call: the reply, and how many bytes the encoder had written after it.
     pub replies: String,
 }
 

@@ -8,7 +8,7 @@ ghost use Rattle.trace_recordings.specs.Recordings.{borrowed_text, calls_text, m
 use std::alloc::{AllocError, AllocFailed, Global};
 use thiserror::Error;
 
-/// A recorded trace. Each part stands here without the line feed behind it.
+/// A recorded trace. Each part stands here without the line feed after it.
 #[derive(Clone, Copy)]
 pub struct Recording<'a> {
     /// By what name to speak of it.

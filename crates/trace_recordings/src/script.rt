@@ -48,7 +48,7 @@ pub fn script_of(alloc: Global, text: &[u8]) -> Result<Vec<Call>, ScriptError>
     }
 }
 
-// The first line, and what stands behind its line feed.
+// The first line, and what stands after its line feed.
 #[tactic(auto, using(crate::proofs::ScriptLemmas::feed_at, crate::proofs::ScriptLemmas::no_feed))]
 fn first_line(text: &[u8]) -> (&[u8], Option<&[u8]>)
     ensures line { IsFirstLine text.now result.0.now (option_copied result.1) }

@@ -41,7 +41,7 @@ fn word_of(line: &[u8]) -> Option<Call>
     }
 }
 
-// What a line asks for that has parts behind its word.
+// What a line asks for that has parts after its word.
 fn parts_of(alloc: Global, line: &[u8]) -> Result<Call, Fault>
     ensures { IfOk result (λ call. Says call line.now) }
 {
@@ -131,7 +131,7 @@ fn event(alloc: Global, line: &[u8]) -> Result<(u64, u64, Vec<FieldValue>), Faul
     Ok((handle, time, values))
 }
 
-// Values up to the end of the line, each behind a space.
+// Values up to the end of the line, each after a space.
 fn values_of(alloc: Global, line: &[u8]) -> Result<Vec<FieldValue>, Fault>
     ensures { IfOk result (λ vs. line.now ≡ flat_map spaced_value (views vs.items)) }
 {
@@ -145,7 +145,7 @@ fn values_of(alloc: Global, line: &[u8]) -> Result<Vec<FieldValue>, Fault>
     Ok(values)
 }
 
-// A value behind a space, and the rest.
+// A value after a space, and the rest.
 fn spaced_value_at(alloc: Global, line: &[u8]) -> Result<(FieldValue, &[u8]), Fault>
     ensures text { IfOk result (λ x. line.now ≡ spaced_value (view x.0) ++ x.1.now) }
     ensures shorter { IfOk result (λ x. length x.1.now < length line.now) }
@@ -180,7 +180,7 @@ fn pair_at(text: &[u8]) -> Option<(u8, &[u8])>
     Some((byte, rest))
 }
 
-// What stands behind a space.
+// What stands after a space.
 fn space(line: &[u8]) -> Result<&[u8], Fault>
     ensures { IfOk result (λ rest. line.now ≡ codes " " ++ rest.now) }
 {

@@ -15,7 +15,7 @@ use trace_values::types::{FieldType, FieldValue};
 /// How many values a value of a script may have around it.
 pub const MOST_LEVELS: u32 = 100;
 
-/// What stands behind a mark, where the line begins with the mark.
+/// What stands after a mark, where the line begins with the mark.
 pub fn behind<'a>(line: &'a [u8], mark: &[u8]) -> Option<&'a [u8]>
     ensures found { IfSome result (λ rest. line.now ≡ mark.now ++ rest.now) }
     ensures len { IfSome result (λ rest. length rest.now + length mark.now ≡ length line.now) }

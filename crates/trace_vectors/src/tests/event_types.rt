@@ -122,7 +122,7 @@ fn slot_taken(rt: HostRuntime) -> Result<(), Fail> {
     Ok(())
 }
 
-/// An encoder that goes on behind all of the bytes.
+/// An encoder that goes on after all of the bytes.
 fn resumed(alloc: Global, bytes: &[u8]) -> Result<Encoder, Fail> {
     let mut decoder = decoder_of(alloc, bytes)?;
     all(&mut decoder)?;

@@ -61,7 +61,7 @@ fn check_texts(rt: &impl Abort, pool: &StringPool, texts: &[(u32, &str)]) -> Res
     Ok(())
 }
 
-/// The trace has so many frames, and behind them its pool holds these texts by rising id, and no others.
+/// The trace has so many frames, and after them its pool holds these texts by rising id, and no others.
 fn check_texts_of(
     rt: &impl Abort,
     alloc: Global,
@@ -89,7 +89,7 @@ fn check_stacks(rt: &impl Abort, pool: &StackPool, stacks: &[(u32, &[u64])]) -> 
     Ok(())
 }
 
-/// The trace has so many frames, and behind them its pool holds these stacks by rising id, and no others.
+/// The trace has so many frames, and after them its pool holds these stacks by rising id, and no others.
 fn check_stacks_of(
     rt: &impl Abort,
     alloc: Global,
@@ -209,7 +209,7 @@ fn claimed_addresses(rt: HostRuntime) -> Result<(), Fail> {
     check_end(&rt, &mut decoder, 5)
 }
 
-/// How many texts and how many stacks the pools have behind all frames.
+/// How many texts and how many stacks the pools have after all frames.
 fn pool_sizes(alloc: Global, bytes: &[u8]) -> Result<(usize, usize), Fail> {
     let mut decoder = decoder_of(alloc, bytes)?;
     all(&mut decoder)?;

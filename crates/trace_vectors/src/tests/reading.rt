@@ -58,7 +58,7 @@ fn one_event_frame_by_frame(rt: HostRuntime) -> Result<(), Fail> {
     check_end(&rt, &mut decoder, 26)
 }
 
-/// How many frames the one event has that is cut behind its header, and where they end.
+/// How many frames the one event has that is cut after its header, and where they end.
 fn read_of_cut(cut: usize) -> (usize, usize) {
     if cut < 19 {
         (0, 5)
@@ -135,7 +135,7 @@ fn second_stream_cut_in_its_header(rt: HostRuntime) -> Result<(), Fail> {
     check_all(&rt, rt.alloc(), &bytes, 2, 26)
 }
 
-/// The decoder gives the conflict of wire id 256, behind the second schema.
+/// The decoder gives the conflict of wire id 256, after the second schema.
 fn check_conflict(rt: &impl Abort, decoder: &mut Decoder<'_>) {
     match decoder.next_frame() {
         Ok(_) => assert!(rt; false, "no conflict"),

@@ -8,7 +8,7 @@ use Rattle.trace_recordings.specs.Recordings.{HasNoEmptyLine, recording_text, Is
 use Rattle.trace_recordings.proofs.HeadLemmas.{first_empty}
 use Rattle.trace_recordings.proofs.recording.recordings_of.Goals as goal
 
--- the recordings behind a head are those of the file
+-- the recordings after a head are those of the file
 behind_head : (head rest file : List ℕ) (r : Result (Vec Recording Global) RecordingError) → HasNoEmptyLine head → file ≡ head ++ (codes "\n\n" ++ rest) → IfOk r (λ v. rest ≡ flat_map recording_text v.items) → IfOk r (λ v. IsFile v.items file)
 behind_head head rest file (Ok v) none parts read = (head, none, parts ∙ ap (λ (t : List ℕ). head ++ (codes "\n\n" ++ t)) read)
 behind_head head rest file (Err e) none parts read = tt

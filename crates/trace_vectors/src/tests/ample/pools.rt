@@ -56,7 +56,7 @@ fn many(alloc: Global, count: usize) -> Result<Vec<u8>, EncodeError> {
     Ok(encoder.finish())
 }
 
-/// The pools behind all frames have so many texts and stacks.
+/// The pools after all frames have so many texts and stacks.
 fn check_pools(
     rt: &impl Abort,
     alloc: Global,
