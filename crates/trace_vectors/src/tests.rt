@@ -13,6 +13,7 @@ mod example;
 mod fields;
 mod frames;
 mod iterators;
+mod layouts;
 mod lent;
 mod numbers;
 mod plain;
