@@ -1,0 +1,131 @@
+//! The original and the library side by side. See ../../README.md.
+mod numbers;
+mod polls;
+mod reading;
+mod writing;
+
+use crate::numbers::{numbers, spelled};
+use crate::reading::FORMS;
+use crate::writing::{READ, REGISTERS, WORKS, hash_of, written};
+use std::hint::black_box;
+
+// The library's side, as static libraries.
+unsafe extern "C" {
+    fn port_write(work: u32, count: u64, hash: u32) -> u64;
+    fn port_decode(form: u32, data: *const u8, len: usize) -> u64;
+    fn port_put(form: u32, numbers: *const u64, len: usize, turns: u64) -> u64;
+    fn port_take(data: *const u8, len: usize) -> u64;
+}
+
+fn peak_kib() -> u64 {
+    let s = std::fs::read_to_string("/proc/self/status").unwrap();
+    s.lines().find(|l| l.starts_with("VmHWM")).unwrap().split_whitespace().nth(1).unwrap().parse().unwrap()
+}
+fn cpu() -> f64 {
+    #[repr(C)]
+    struct Ts(i64, i64);
+    unsafe extern "C" {
+        fn clock_gettime(id: i32, t: *mut Ts) -> i32;
+    }
+    let mut t = Ts(0, 0);
+    unsafe { clock_gettime(3, &mut t) };
+    t.0 as f64 + t.1 as f64 / 1e9
+}
+fn best(k: usize, mut f: impl FnMut() -> u64) -> f64 {
+    let mut b = f64::MAX;
+    for _ in 0..k {
+        let s = cpu();
+        black_box(f());
+        b = b.min(cpu() - s);
+    }
+    b
+}
+/// In turn, so that a loaded moment meets both.
+fn both(k: usize, mut f: impl FnMut() -> u64, mut g: impl FnMut() -> u64) -> (f64, f64) {
+    let (mut a, mut b) = (f64::MAX, f64::MAX);
+    for _ in 0..k {
+        a = a.min(best(1, &mut f));
+        b = b.min(best(1, &mut g));
+    }
+    (a, b)
+}
+fn work_of(name: &str) -> u32 {
+    WORKS.iter().position(|w| *w == name).unwrap_or_else(|| panic!("no workload {name}")) as u32
+}
+
+fn main() {
+    let a: Vec<String> = std::env::args().skip(1).collect();
+    match a[0].as_str() {
+        // write IMPL WORK COUNT
+        "write" => {
+            let (work, n) = (work_of(&a[2]), a[3].parse().unwrap());
+            let v = if a[1] == "orig" { written(work, n).len() as u64 } else { unsafe { port_write(work, n, 0) } };
+            println!("{} peak {} KiB", black_box(v), peak_kib());
+        }
+        // decode IMPL WORK EVENTS FORM TURNS
+        "decode" => {
+            let (work, n, form, turns): (u32, u64, u32, u64) = (work_of(&a[2]), a[3].parse().unwrap(), a[4].parse().unwrap(), a[5].parse().unwrap());
+            let data = written(work, n);
+            let before = peak_kib();
+            let mut t = 0u64;
+            for _ in 0..turns {
+                t = t.wrapping_add(if a[1] == "orig" { reading::decoded(form, &data) } else { unsafe { port_decode(form, data.as_ptr(), data.len()) } });
+            }
+            println!("{} bytes {} peak before {before} after {} KiB", black_box(t), data.len(), peak_kib());
+        }
+        // put IMPL FORM small|mixed TURNS
+        "put" => {
+            let xs = numbers(a[3] == "small");
+            let turns = a[4].parse().unwrap();
+            let v = if a[1] == "orig" { numbers::put(&xs, turns) } else { unsafe { port_put(a[2].parse().unwrap(), xs.as_ptr(), xs.len(), turns) } };
+            println!("{}", black_box(v));
+        }
+        "take" => {
+            let data = spelled(&numbers(a[3] == "small"));
+            let turns: u64 = a[4].parse().unwrap();
+            let mut t = 0u64;
+            for _ in 0..turns {
+                let d = black_box(&data);
+                t = t.wrapping_add(if a[1] == "orig" { numbers::take(d) } else { unsafe { port_take(d.as_ptr(), d.len()) } });
+            }
+            println!("{}", black_box(t));
+        }
+        "gen" => {
+            use std::io::Write;
+            std::io::stdout().write_all(&written(work_of(&a[1]), a[2].parse().unwrap())).unwrap();
+        }
+        "check" => {
+            for (w, name) in WORKS.iter().enumerate() {
+                let n = if w as u32 == REGISTERS { 1 } else { 3000 };
+                let o = written(w as u32, n);
+                let same = hash_of(&o) == unsafe { port_write(w as u32, n, 1) };
+                let sums = (0..FORMS.len() as u32).all(|f| reading::decoded(f, &o) == unsafe { port_decode(f, o.as_ptr(), o.len()) });
+                println!("{name:16} bytes {} {} sums {}", o.len(), if same { "same" } else { "DIFFER" }, if sums { "same" } else { "DIFFER" });
+            }
+        }
+        // time K EVENTS
+        _ => {
+            let k: usize = a[1].parse().unwrap();
+            let n: u64 = a[2].parse().unwrap();
+            let only = a.get(3).cloned().unwrap_or_default();
+            let row = |name: &str, per: f64, (o, p): (f64, f64)| println!("{name:34} original {:8.1} ns  library {:8.1} ns  ratio {:5.2}", o / per * 1e9, p / per * 1e9, p / o);
+            for (w, name) in WORKS.iter().enumerate() {
+                if !name.contains(&only) {
+                    continue;
+                }
+                let w = w as u32;
+                let m = if w == REGISTERS { n / 10000 + 1 } else { n };
+                let per = if w == REGISTERS { m as f64 * 1000.0 } else { m as f64 };
+                row(&format!("write {name}"), per, both(k, || written(w, m).len() as u64, || unsafe { port_write(w, m, 0) }));
+                if !READ.contains(name) {
+                    continue;
+                }
+                let data = written(w, m);
+                for (form, f) in FORMS.iter().enumerate() {
+                    let form = form as u32;
+                    row(&format!("{f} {name}"), per, both(k, || reading::decoded(form, &data), || unsafe { port_decode(form, data.as_ptr(), data.len()) }));
+                }
+            }
+        }
+    }
+}
