@@ -26,8 +26,25 @@ fn events<T: TraceEvent>(alloc: Global, event: &T, count: usize) -> Result<Vec<u
     Ok(encoder.finish())
 }
 
-/// The event of this type is written so many times, and read and dumped. Its schema has so many bytes, in so many frames, and the event
-/// has so many.
+/// The event of this type is written so many times and read; before the first stands its schema, of so many bytes and frames, and each
+/// event has so many bytes. The trace.
+fn check_read<T: TraceEvent>(
+    rt: &impl Abort,
+    alloc: Global,
+    event: &T,
+    count: usize,
+    schema: (u64, usize),
+    each: u64,
+) -> Result<Vec<u8>, Fail> {
+    let (length, frames) = if count == 0 { (0, 0) } else { schema };
+    let bytes = events(alloc, event, count)?;
+    let all = each.saturating_mul(count as u64);
+    assert_eq!(rt; bytes.len() as u64, all.saturating_add(length).saturating_add(5));
+    check_trace(rt, alloc, &bytes, count.saturating_add(frames))?;
+    Ok(bytes)
+}
+
+/// The same, and the trace is dumped.
 fn check_count<T: TraceEvent>(
     rt: &impl Abort,
     alloc: Global,
@@ -36,11 +53,7 @@ fn check_count<T: TraceEvent>(
     schema: (u64, usize),
     each: u64,
 ) -> Result<(), Fail> {
-    let (length, frames) = if count == 0 { (0, 0) } else { schema };
-    let bytes = events(alloc, event, count)?;
-    let all = each.saturating_mul(count as u64);
-    assert_eq!(rt; bytes.len() as u64, all.saturating_add(length).saturating_add(5));
-    check_trace(rt, alloc, &bytes, count.saturating_add(frames))?;
+    let bytes = check_read(rt, alloc, event, count, schema, each)?;
     check_whole_dump(rt, alloc, &bytes);
     Ok(())
 }
@@ -192,27 +205,33 @@ fn check_borrowed(rt: &impl Abort, alloc: Global, size: usize) -> Result<(), Fai
 }
 
 /// An event of a stack of this size.
-fn check_stack(rt: &impl Abort, alloc: Global, size: usize) -> Result<(), Fail> {
-    let event = Stacks {
+fn stacks(alloc: Global, size: usize) -> Result<Stacks, AllocError> {
+    Ok(Stacks {
         time: 0,
         frames: StackFrames::from_slice(alloc, &vec![in alloc; 7; size]?)?,
         stack: InternedStackFrames::from_raw(0),
-    };
-    let each = (size as u64).saturating_mul(8).saturating_add(14);
-    check_count(rt, alloc, &event, 1, (31, 1), each)
+    })
+}
+
+/// How many bytes that event has.
+fn stacks_length(size: usize) -> u64 {
+    (size as u64).saturating_mul(8).saturating_add(14)
 }
 
 /// An event of a list and a map of this size, of at most 1,000,000 items each.
-fn check_dynamic(rt: &impl Abort, alloc: Global, size: usize) -> Result<(), Fail> {
-    let event = Dynamic {
+fn dynamic(alloc: Global, size: usize) -> Result<Dynamic, AllocError> {
+    Ok(Dynamic {
         time: 0,
         items: value(alloc, FieldType::DynamicList, size)?,
         table: value(alloc, FieldType::DynamicMap, size)?,
-    };
+    })
+}
+
+/// How many bytes that event has.
+fn dynamic_length(size: usize) -> u64 {
     let items = spelled_length(FieldType::DynamicList, size);
     let pairs = spelled_length(FieldType::DynamicMap, size);
-    let each = items.saturating_add(pairs).saturating_add(6);
-    check_count(rt, alloc, &event, 1, (31, 1), each)
+    items.saturating_add(pairs).saturating_add(6)
 }
 
 #[test]
@@ -226,12 +245,20 @@ fn types_of_texts_of_each_size(rt: HostRuntime) -> Result<(), Fail> {
 
 #[test]
 fn types_of_lists_of_each_size(rt: HostRuntime) -> Result<(), Fail> {
+    let alloc = rt.alloc();
     for size in SIZES {
-        check_stack(&rt, rt.alloc(), size)?;
-        check_dynamic(&rt, rt.alloc(), size)?;
+        check_count(&rt, alloc, &stacks(alloc, size)?, 1, (31, 1), stacks_length(size))?;
+        check_count(&rt, alloc, &dynamic(alloc, size)?, 1, (31, 1), dynamic_length(size))?;
     }
-    check_stack(&rt, rt.alloc(), MILLION)?;
-    check_dynamic(&rt, rt.alloc(), MILLION)
+    Ok(())
+}
+
+#[test]
+fn types_of_a_million(rt: HostRuntime) -> Result<(), Fail> {
+    let alloc = rt.alloc();
+    check_read(&rt, alloc, &stacks(alloc, MILLION)?, 1, (31, 1), stacks_length(MILLION))?;
+    check_read(&rt, alloc, &dynamic(alloc, MILLION)?, 1, (31, 1), dynamic_length(MILLION))?;
+    Ok(())
 }
 
 /// Four events, of types known by a slot and by a name, with a text that is interned between them.
