@@ -39,7 +39,10 @@ fn check_read<T: TraceEvent>(
     let (length, frames) = if count == 0 { (0, 0) } else { schema };
     let bytes = events(alloc, event, count)?;
     let all = each.saturating_mul(count as u64);
-    assert_eq!(rt; bytes.len() as u64, all.saturating_add(length).saturating_add(5));
+    assert_eq!(rt;
+        bytes.len() as u64,
+        all.saturating_add(length).saturating_add(5)
+    );
     check_trace(rt, alloc, &bytes, count.saturating_add(frames))?;
     Ok(bytes)
 }
@@ -247,8 +250,22 @@ fn types_of_texts_of_each_size(rt: HostRuntime) -> Result<(), Fail> {
 fn types_of_lists_of_each_size(rt: HostRuntime) -> Result<(), Fail> {
     let alloc = rt.alloc();
     for size in SIZES {
-        check_count(&rt, alloc, &stacks(alloc, size)?, 1, (31, 1), stacks_length(size))?;
-        check_count(&rt, alloc, &dynamic(alloc, size)?, 1, (31, 1), dynamic_length(size))?;
+        check_count(
+            &rt,
+            alloc,
+            &stacks(alloc, size)?,
+            1,
+            (31, 1),
+            stacks_length(size),
+        )?;
+        check_count(
+            &rt,
+            alloc,
+            &dynamic(alloc, size)?,
+            1,
+            (31, 1),
+            dynamic_length(size),
+        )?;
     }
     Ok(())
 }
@@ -256,8 +273,22 @@ fn types_of_lists_of_each_size(rt: HostRuntime) -> Result<(), Fail> {
 #[test]
 fn types_of_a_million(rt: HostRuntime) -> Result<(), Fail> {
     let alloc = rt.alloc();
-    check_read(&rt, alloc, &stacks(alloc, MILLION)?, 1, (31, 1), stacks_length(MILLION))?;
-    check_read(&rt, alloc, &dynamic(alloc, MILLION)?, 1, (31, 1), dynamic_length(MILLION))?;
+    check_read(
+        &rt,
+        alloc,
+        &stacks(alloc, MILLION)?,
+        1,
+        (31, 1),
+        stacks_length(MILLION),
+    )?;
+    check_read(
+        &rt,
+        alloc,
+        &dynamic(alloc, MILLION)?,
+        1,
+        (31, 1),
+        dynamic_length(MILLION),
+    )?;
     Ok(())
 }
 
@@ -266,7 +297,13 @@ fn put_round(encoder: &mut Encoder, round: u64) -> Result<(), EncodeError> {
     put(encoder, &FastSlot { time: round })?;
     let label = intern(encoder, "io")?;
     put(encoder, &poll(label))?;
-    put(encoder, &Annotated { time: round, load: 1 })?;
+    put(
+        encoder,
+        &Annotated {
+            time: round,
+            load: 1,
+        },
+    )?;
     put(encoder, &ByName { time: round })
 }
 
@@ -284,7 +321,12 @@ fn many_events_of_types_in_turn(rt: HostRuntime) -> Result<(), Fail> {
     for count in COUNTS {
         let bytes = rounds(rt.alloc(), count)?;
         let once = if count == 0 { 0 } else { 6 };
-        check_trace(&rt, rt.alloc(), &bytes, count.saturating_mul(4).saturating_add(once))?;
+        check_trace(
+            &rt,
+            rt.alloc(),
+            &bytes,
+            count.saturating_mul(4).saturating_add(once),
+        )?;
         check_whole_dump(&rt, rt.alloc(), &bytes);
     }
     Ok(())
