@@ -1,3 +1,4 @@
 pub mod Silence
 pub mod Marks
 pub mod Tallies
+pub mod Beats

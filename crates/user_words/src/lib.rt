@@ -3,6 +3,7 @@
 //! reach.
 #![tactic(auto)]
 
+pub mod beats;
 pub mod laws;
 pub mod marks;
 pub mod silent;

@@ -1,5 +1,6 @@
 //! Calls of encoders and decoders that promise nothing, so that proofs of tests that make many of them stay small.
 
+use dial9_trace_format::TraceEvent;
 use dial9_trace_format::codec::{PoolEntry, StackPoolEntry, WireTypeId};
 use dial9_trace_format::decoder::{DecodedFrame, Decoder};
 use dial9_trace_format::encoder::{Call, Encoder, Reply, Schema, run_calls};
@@ -54,6 +55,11 @@ pub fn put_event(
     values: &[FieldValue],
 ) -> Result<(), EncodeError> {
     encoder.write_event(schema, time, values)
+}
+
+/// `Encoder::write`.
+pub fn put<T: TraceEvent>(encoder: &mut Encoder, event: &T) -> Result<(), EncodeError> {
+    encoder.write(event)
 }
 
 /// `Encoder::write_event`, of an event of one value.

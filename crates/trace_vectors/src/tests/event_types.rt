@@ -1,6 +1,6 @@
 //! Events of event types.
 
-use crate::tests::calls::{all, decoder_of, put_event};
+use crate::tests::calls::{all, decoder_of, put, put_event};
 use dial9_trace_format::TraceEvent;
 use dial9_trace_format::encoder::{Encoder, Schema};
 use dial9_trace_format::leb128::EncodeError;
@@ -42,11 +42,6 @@ const UNTIMED: [u8; 21] = [
     0x54, 0x52, 0x43, 0x00, 0x01, 0x01, 0x05, 0x00, 0x08, 0x00, 0x46, 0x61, 0x73, 0x74, 0x53, 0x6C,
     0x6F, 0x74, 0x00, 0x00, 0x00,
 ];
-
-/// `Encoder::write`.
-fn put<T: TraceEvent>(encoder: &mut Encoder, event: &T) -> Result<(), EncodeError> {
-    encoder.write(event)
-}
 
 /// The call is refused so, and nothing is written.
 fn check_refused<T: TraceEvent>(
@@ -156,7 +151,7 @@ fn name_of_another_type(rt: HostRuntime) -> Result<(), Fail> {
 }
 
 /// The second field does not fit: a number is no map.
-fn misfit_behind_a_list(alloc: Global) -> Dynamic {
+fn misfit_after_a_list(alloc: Global) -> Dynamic {
     Dynamic {
         time: 0,
         items: FieldValue::List(Vec::new(alloc)),
@@ -166,7 +161,7 @@ fn misfit_behind_a_list(alloc: Global) -> Dynamic {
 
 #[test]
 fn misfit_in_the_middle(rt: HostRuntime) -> Result<(), Fail> {
-    let event = misfit_behind_a_list(rt.alloc());
+    let event = misfit_after_a_list(rt.alloc());
     let mut encoder = Encoder::new(rt.alloc())?;
     check_refused(&rt, &mut encoder, &event, EncodeError::Misfit { field: 0 });
     assert_eq!(rt; encoder.bytes_written(), 5);
