@@ -1,8 +1,18 @@
 -- The turns of a script, one after another.
-use Rattle.std.proofs.Common.{◌≡◌, ℕ, List, [], ◌∷◌, ◌++◌, Some, None, Result, Ok, Err, OnOk, refl, sym, ap, subst, append-nil, append_assoc, ◌∙◌}
+use Rattle.std.proofs.Common.{◌≡◌, ℕ, List, [], ◌∷◌, ◌++◌, Option, Some, None, Result, Ok, Err, OnOk, IfOk, IfErr, IfSome, Vec, refl, sym, ap, subst, append-nil, append_assoc, ◌∙◌}
+use Rattle.std.specs.Option.{IsSome}
+use Rattle.std.specs.declared.alloc.Global.{Global}
 use Rattle.std.specs.List.{AllByRecursion}
+use Rattle.trace_values.specs.declared.leb128.error.EncodeError.{EncodeError}
+use Rattle.trace_values.specs.declared.leb128.error.EncodeError.TheVariants as errors
+use Rattle.trace_values.specs.Values.{owned_reader}
+use Rattle.trace_wire.specs.Runs.{Item}
 use Rattle.trace_writer.specs.declared.encoder.call.Reply.{Reply}
-use Rattle.trace_writer.specs.State.{WriterState}
+use Rattle.trace_writer.specs.State.{EncoderView, WriterState}
+use Rattle.trace_writer.specs.Resume.{IsResumed}
+use Rattle.dial9_trace_format.specs.declared.failure.Failure.{Failure}
+use Rattle.dial9_trace_format.specs.Decoding.{DecoderState, DecodesAll}
+use Rattle.dial9_trace_format.specs.Decodings.{IsOpened}
 use Rattle.trace_writer.specs.Calls.{Action, fresh_state, header}
 use Rattle.trace_writer.specs.Runs.{Plays}
 use Rattle.trace_writer.specs.Headline.{FreshHeadline}
@@ -14,7 +24,7 @@ use Rattle.trace_recordings.specs.declared.player.Note.TheVariants.{Answered, Si
 use Rattle.trace_recordings.specs.declared.player.PlayError.{PlayError}
 use Rattle.trace_recordings.specs.declared.typed.Sample.{Sample}
 use Rattle.trace_wire.specs.Schemas.{Entry}
-use Rattle.trace_recordings.specs.Playing.{DefinesType, Playing, with_reply, with_type, start, Asks, Resets, IsAsked, IsOfEncoder, IsWritten, Turns, TurnsEach}
+use Rattle.trace_recordings.specs.Playing.{AnswersResumption, DefinesType, HasReadAll, RefusesResumption, Playing, with_reply, with_type, start, Asks, Resets, Resumes, IsAsked, IsOfEncoder, IsWritten, Turns, TurnsEach}
 
 no_action : (a : Action) → None ≡ Some a → ⊥
 no_action a e = cc
@@ -32,7 +42,7 @@ turns_asked p (InternStack frames) q h = h
 turns_asked p (StringPool entries) q h = h
 turns_asked p (StackPool entries) q h = h
 turns_asked p Reset q h = absurd (no_action h.2.action h.2.asked)
-turns_asked p Resume q h = h
+turns_asked p Resume q h = absurd (no_action h.2.action h.2.asked)
 turns_asked p (Raw bytes) q h = absurd (no_action h.2.action h.2.asked)
 turns_asked p Bare q h = absurd (no_action h.2.action h.2.asked)
 
@@ -45,6 +55,33 @@ asked_turn (Err e) p call reply mid q asks noted = tt
 pub reset_turn : (r : Result (Unit {0}) PlayError) (p : Playing) (call : Call) (note : Note) (mid q : Playing) → call ≡ Reset → Resets p note mid → OnOk r (q ≡ with_reply note mid) → OnOk r (Turns p call q)
 reset_turn (Ok u) p call note mid q is resets noted = subst (λ (c : Call). Turns p c q) (sym is) (note, mid, resets, noted)
 reset_turn (Err e) p call note mid q is resets noted = tt
+
+-- what a decoder that has given all becomes, by whether it has failed
+becomes : (trace : List ℕ) (last : DecoderState) (o : Option Failure) (r : Result (EncoderView (Vec ℕ Global)) EncodeError) → HasReadAll trace last → last.failure ≡ o
+    → IfOk r (λ e. IsResumed e.state last.grammar last.pools) → IfSome o (λ f. r ≡ Err errors.Failed) → (o ≡ None → IfErr r (λ e. e ≡ errors.OutOfMemory)) → AnswersResumption trace r
+becomes trace last None (Ok e) read is resumed failed refused = record { last = last; read = read; works = is; resumed = resumed }
+becomes trace last (Some f) (Ok e) read is resumed failed refused = absurd (cc)
+becomes trace last None (Err e) read is resumed failed refused = subst (RefusesResumption trace) (sym (refused refl)) tt
+becomes trace last (Some f) (Err e) read is resumed failed refused =
+    let has_failed : IsSome last.failure = rw is refl in
+    let why : e ≡ errors.Failed = cc in
+    subst (RefusesResumption trace) (sym why) (last, read, has_failed)
+
+pub resumption_answers : (trace : List ℕ) (first last : DecoderState) (shown : List Item) (r : Result (EncoderView (Vec ℕ Global)) EncodeError) → IsOpened trace first → DecodesAll owned_reader first last shown
+    → IfOk r (λ e. IsResumed e.state last.grammar last.pools) → IfSome last.failure (λ f. r ≡ Err errors.Failed) → (last.failure ≡ None → IfErr r (λ e. e ≡ errors.OutOfMemory)) → AnswersResumption trace r
+resumption_answers trace first last shown r opened all resumed failed refused =
+    becomes trace last last.failure r (record { first = first; opened = opened; shown = shown; all = all }) refl resumed failed refused
+
+-- the refusal, of the output
+pub resumption_refused : (trace bytes : List ℕ) (r : Result (EncoderView (Vec ℕ Global)) EncodeError) (e : EncodeError) → trace ≡ bytes → r ≡ Err e → AnswersResumption trace r → RefusesResumption bytes e
+resumption_refused trace bytes r e same is answers =
+    let here : AnswersResumption bytes r = subst (λ (x : List ℕ). AnswersResumption x r) same answers in
+    subst (AnswersResumption bytes) is here
+
+-- an encoder went on after the output, and then the reply noted, where that was done
+pub resume_turn : (r : Result (Unit {0}) PlayError) (p : Playing) (call : Call) (note : Note) (mid q : Playing) → call ≡ Resume → Resumes p note mid → OnOk r (q ≡ with_reply note mid) → OnOk r (Turns p call q)
+resume_turn (Ok u) p call note mid q is resumes noted = subst (λ (c : Call). Turns p c q) (sym is) (note, mid, resumes, noted)
+resume_turn (Err e) p call note mid q is resumes noted = tt
 
 -- a type was kept, and then that noted
 pub type_turn : (r : Result (Unit {0}) PlayError) (p : Playing) (call : Call) (handle slot : ℕ) (definition : Definition) (mid q : Playing) → call ≡ DefineType handle slot definition → DefinesType handle slot definition p mid → OnOk r (q ≡ with_reply Silent mid) → OnOk r (Turns p call q)

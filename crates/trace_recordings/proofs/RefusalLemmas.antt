@@ -8,9 +8,9 @@ use Rattle.std.specs.declared.alloc.Global.{Global}
 use Rattle.trace_values.specs.declared.types.field_value.FieldValue.{FieldValue}
 use Rattle.trace_recordings.specs.declared.script.definitions.Definition.{Definition}
 use Rattle.trace_recordings.specs.declared.script.call.Call.{Call}
-use Rattle.trace_recordings.specs.declared.script.call.Call.TheVariants.{DefineType, WriteTyped}
+use Rattle.trace_recordings.specs.declared.script.call.Call.TheVariants.{DefineType, WriteTyped, Resume}
 use Rattle.trace_recordings.specs.Playing.{Defined, Playing, TurnsEach, start}
-use Rattle.trace_recordings.specs.Refusals.{FirstMissing, IsHad, IsOfPlayer, IsUnheld, LacksType, LeavesOut, MissesAt, NamesNone, Refuses, RefusesCall, RefusesUnder, StopsAt, WritesTyped, misses}
+use Rattle.trace_recordings.specs.Refusals.{FirstMissing, IsHad, IsOfPlayer, IsUnheld, LacksHeader, LacksType, LeavesOut, MissesAt, NamesNone, Refuses, RefusesCall, RefusesUnder, ResumesHeadless, StopsAt, WritesTyped, misses}
 use Rattle.trace_recordings.specs.Scripts.{IsScript, word_of}
 use Rattle.trace_recordings.specs.Tallies.{counted_on}
 
@@ -54,11 +54,12 @@ left_out_at calls i line call (plays.Script error) inside is had n r = absurd r
 left_out_at calls i line call (plays.LeftOut other word) inside is had n r = first_missing calls i other call word.now inside is had r.2 (r.0 ∙ n) r.1
 left_out_at calls i line call (plays.Unknown other handle) inside is had n r = absurd r
 left_out_at calls i line call (plays.Unheld other) inside is had n r = absurd r
+left_out_at calls i line call (plays.Headless other) inside is had n r = absurd r
 left_out_at calls i line call (plays.Encoder error) inside is had n r = absurd r
 left_out_at calls i line call plays.Memory inside is had n r = tt
 
-stops_at : (calls : List Call) (i line : ℕ) (call : Call) (reached : Playing) (why : Defined → Call → Type 0) → AllByRecursion IsHad calls → i < length calls → call ≡ get_or calls i call → TurnsEach start (take i calls) reached → line ≡ counted_on i 1
-    → why reached.defined call → StopsAt calls line why
+stops_at : (calls : List Call) (i line : ℕ) (call : Call) (reached : Playing) (why : Playing → Call → Type 0) → AllByRecursion IsHad calls → i < length calls → call ≡ get_or calls i call → TurnsEach start (take i calls) reached → line ≡ counted_on i 1
+    → why reached call → StopsAt calls line why
 stops_at calls i line call reached why had inside is turns n so =
     let parts = parts_at calls i call inside is in
     record { before = take i calls; call = call; after = parts.0; parts = parts.1; had = had; counts = counted calls i line inside n; reached = reached; turns = turns; is_so = so }
@@ -70,9 +71,11 @@ not_made text calls i line call reached (plays.Script error) script had inside i
 not_made text calls i line call reached (plays.LeftOut other word) script had inside is turns n r =
     absurd (let wrong : true ≡ false = sym r ∙ had_at calls i call inside is had in cc)
 not_made text calls i line call reached (plays.Unknown other handle) script had inside is turns n r =
-    (calls, script, stops_at calls i other call reached (λ defined c. NamesNone defined c handle) had inside is turns (r.0 ∙ n) r.1)
+    (calls, script, stops_at calls i other call reached (λ p c. NamesNone p.defined c handle) had inside is turns (r.0 ∙ n) r.1)
 not_made text calls i line call reached (plays.Unheld other) script had inside is turns n r =
-    (calls, script, stops_at calls i other call reached (λ defined c. WritesTyped c) had inside is turns (r.0 ∙ n) r.1)
+    (calls, script, stops_at calls i other call reached (λ p c. WritesTyped c) had inside is turns (r.0 ∙ n) r.1)
+not_made text calls i line call reached (plays.Headless other) script had inside is turns n r =
+    (calls, script, stops_at calls i other call reached ResumesHeadless had inside is turns (r.0 ∙ n) r.1)
 not_made text calls i line call reached (plays.Encoder error) script had inside is turns n r = tt
 not_made text calls i line call reached plays.Memory script had inside is turns n r = tt
 
@@ -83,6 +86,7 @@ not_begun text calls (plays.LeftOut line word) script r = (calls, script, r)
 not_begun text calls (plays.Unknown line handle) script r = absurd r
 not_begun text calls (plays.Encoder error) script r = absurd r
 not_begun text calls (plays.Unheld line) script r = absurd r
+not_begun text calls (plays.Headless line) script r = absurd r
 not_begun text calls plays.Memory script r = tt
 
 -- no player was made
@@ -91,6 +95,7 @@ no_player text (plays.Script error) r = absurd r
 no_player text (plays.LeftOut line word) r = absurd r
 no_player text (plays.Unknown line handle) r = absurd r
 no_player text (plays.Unheld line) r = absurd r
+no_player text (plays.Headless line) r = absurd r
 no_player text (plays.Encoder error) r = tt
 no_player text plays.Memory r = tt
 
@@ -100,12 +105,33 @@ no_memory defined line call (plays.Script error) r = absurd r
 no_memory defined line call (plays.LeftOut other word) r = absurd r
 no_memory defined line call (plays.Unknown other handle) r = absurd r
 no_memory defined line call (plays.Unheld other) r = absurd r
+no_memory defined line call (plays.Headless other) r = absurd r
 no_memory defined line call (plays.Encoder error) r = tt
 no_memory defined line call plays.Memory r = tt
 
+-- what the definitions alone tell
+pub under_definitions : (p : Playing) (line : ℕ) (call : Call) (e : PlayError) → RefusesUnder p.defined line call e → RefusesCall p line call e
+under_definitions p line call (plays.Script error) r = r
+under_definitions p line call (plays.LeftOut other word) r = r
+under_definitions p line call (plays.Unknown other handle) r = r
+under_definitions p line call (plays.Unheld other) r = r
+under_definitions p line call (plays.Headless other) r = absurd r
+under_definitions p line call (plays.Encoder error) r = r
+under_definitions p line call plays.Memory r = r
+
+-- the output has no header
+pub lacks_header : (p : Playing) (line : ℕ) (call : Call) (e : PlayError) → call ≡ Resume → LacksHeader line p.bytes e → RefusesCall p line call e
+lacks_header p line call (plays.Script error) is r = absurd r
+lacks_header p line call (plays.LeftOut other word) is r = absurd r
+lacks_header p line call (plays.Unknown other name) is r = absurd r
+lacks_header p line call (plays.Unheld other) is r = absurd r
+lacks_header p line call (plays.Headless other) is r = (r.0, subst (ResumesHeadless p) (sym is) r.1)
+lacks_header p line call (plays.Encoder error) is r = absurd r
+lacks_header p line call plays.Memory is r = tt
+
 pub no_memory_in : {A : Type 0} (r : Result A PlayError) (p : Playing) (line : ℕ) (call : Call) → IfErr r IsOfPlayer → IfErr r (RefusesCall p line call)
 no_memory_in (Ok u) p line call h = tt
-no_memory_in (Err e) p line call h = no_memory p.defined line call e h
+no_memory_in (Err e) p line call h = under_definitions p line call e (no_memory p.defined line call e h)
 
 -- no sample type is so defined
 pub lacks_type : (defined : Defined) (line : ℕ) (call : Call) (handle slot : ℕ) (definition : Definition) (e : PlayError) → call ≡ DefineType handle slot definition → LacksType line slot definition e → RefusesUnder defined line call e
@@ -113,6 +139,7 @@ lacks_type defined line call handle slot definition (plays.Script error) is r = 
 lacks_type defined line call handle slot definition (plays.LeftOut other word) is r = ap misses is ∙ r
 lacks_type defined line call handle slot definition (plays.Unknown other name) is r = absurd r
 lacks_type defined line call handle slot definition (plays.Unheld other) is r = absurd r
+lacks_type defined line call handle slot definition (plays.Headless other) is r = absurd r
 lacks_type defined line call handle slot definition (plays.Encoder error) is r = absurd r
 lacks_type defined line call handle slot definition plays.Memory is r = tt
 
@@ -122,5 +149,6 @@ unheld defined line call handle time values (plays.Script error) is r = absurd r
 unheld defined line call handle time values (plays.LeftOut other word) is r = absurd r
 unheld defined line call handle time values (plays.Unknown other name) is r = absurd r
 unheld defined line call handle time values (plays.Unheld other) is r = (r, subst WritesTyped (sym is) tt)
+unheld defined line call handle time values (plays.Headless other) is r = absurd r
 unheld defined line call handle time values (plays.Encoder error) is r = absurd r
 unheld defined line call handle time values plays.Memory is r = tt

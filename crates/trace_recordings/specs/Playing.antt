@@ -1,5 +1,5 @@
 -- What playing a script makes.
-use Rattle.std.specs.Prelude.{◌≡◌, ◌≢◌, ⊤, ℕ, Bool, true, false, List, [], ◌∷◌, ◌++◌, Option, Some, None, Vec, map, codes, decimal, string_bytes}
+use Rattle.std.specs.Prelude.{◌≡◌, ◌≢◌, ⊤, ℕ, Bool, true, false, List, [], ◌∷◌, ◌++◌, length, Option, Some, None, IsSome, Result, Ok, Err, Vec, map, codes, decimal, string_bytes}
 use Rattle.std.specs.Option.{option_map}
 use Rattle.std.specs.List.{AllByRecursion}
 use Rattle.std.specs.Ordering.{nat_cmp}
@@ -8,7 +8,9 @@ use Rattle.std.specs.Map.{lookup}
 use Rattle.trace_values.specs.declared.leb128.error.EncodeError.{EncodeError}
 use Rattle.trace_values.specs.declared.leb128.error.EncodeError.TheVariants as errors
 use Rattle.trace_values.specs.IdTexts.{pool_text, stack_text}
+use Rattle.trace_values.specs.Values.{owned_reader}
 use Rattle.trace_values.specs.View.{views}
+use Rattle.trace_wire.specs.Runs.{Item}
 use Rattle.trace_wire.specs.Schemas as schemas
 use Rattle.trace_writer.specs.declared.encoder.call.Reply.{Reply}
 use Rattle.trace_writer.specs.declared.encoder.call.Reply.TheVariants.{Done, WireId, Text, Stack, Refused}
@@ -18,6 +20,9 @@ use Rattle.trace_values.specs.Sending.{telling}
 use Rattle.trace_writer.specs.Calls.{Action, Does, register, write_event, write_type, intern_string, write_string_pool, intern_stack, write_stack_pool, Answered, fresh_state, header}
 use Rattle.trace_writer.specs.Runs.{Plays}
 use Rattle.trace_writer.specs.Headline.{AreFaultless, IsRead, frames_played}
+use Rattle.trace_writer.specs.Resume.{IsResumed}
+use Rattle.dial9_trace_format.specs.Decoding.{DecoderState, DecodesAll}
+use Rattle.dial9_trace_format.specs.Decodings.{IsOpened}
 use Rattle.trace_recordings.specs.declared.script.call.Call.{Call}
 use Rattle.trace_recordings.specs.declared.script.call.Call.TheVariants.{Nothing, Define, Register, Event, DefineType, WriteTyped, InternString, InternStack, StringPool, StackPool, Reset, Resume, Raw, Bare}
 use Rattle.trace_recordings.specs.declared.script.definitions.Annotation.{Annotation}
@@ -41,6 +46,7 @@ IsOfScript (plays.Script error) = error.fault ≢ faults.Memory
 IsOfScript (plays.LeftOut line call) = ⊤
 IsOfScript (plays.Unknown line handle) = ⊤
 IsOfScript (plays.Unheld line) = ⊤
+IsOfScript (plays.Headless line) = ⊤
 IsOfScript (plays.Encoder error) = ⊥
 IsOfScript plays.Memory = ⊥
 
@@ -72,6 +78,7 @@ answer_text (Refused e) = refusal_text e
 abbrev pub reply_text : Note → List ℕ
 reply_text notes.Silent = codes "-"
 reply_text notes.Reset = codes "reset"
+reply_text (notes.Resumed size) = codes "resume " ++ decimal size
 reply_text (notes.Answered reply) = answer_text reply
 
 -- a reply, and how many bytes the encoder had written after it
@@ -116,12 +123,13 @@ action_of defined (StringPool entries) = Some (write_string_pool (map pool_text_
 action_of defined (StackPool entries) = Some (write_stack_pool (map pool_stack_of entries.items))
 action_of defined other = None
 
--- the call asks something of an encoder, or would
+-- the call asks something of an encoder
 abbrev pub asks : Call → Bool
 asks Nothing = false
 asks (Define handle definition) = false
 asks (DefineType handle slot definition) = false
 asks Reset = false
+asks Resume = false
 asks (Raw bytes) = false
 asks Bare = false
 asks call = true
@@ -180,9 +188,42 @@ Resets p notes.Reset q = q ≡ record p { state = fresh_state; bytes = p.bytes +
 Resets p (notes.Answered (Refused (errors.Writer kind))) q = q ≡ p
 Resets p note q = ⊥
 
--- a new trace is begun, and the reply noted
-abbrev pub IsReset : Playing → Playing → Type 0
-IsReset p q = (note : Note) × (mid : Playing) × Resets p note mid × (q ≡ with_reply note mid)
+-- ---- going on after the output
+
+-- a decoder that has given all that stands in a trace
+pub record HasReadAll (trace : List ℕ) (last : DecoderState) : Type 0 where
+  pub first : DecoderState
+  pub opened : IsOpened trace first
+  pub shown : List Item
+  pub all : DecodesAll owned_reader first last shown
+
+-- the encoder goes on where such a decoder stands, which has not failed; it has counted no bytes
+pub record GoesOnAfter (trace : List ℕ) (x : WriterState) : Type 0 where
+  pub last : DecoderState
+  pub read : HasReadAll trace last
+  pub works : last.failure ≡ None
+  pub resumed : IsResumed x last.grammar last.pools
+
+-- no encoder goes on after a trace: its decoder has failed, or memory was wanting
+abbrev pub RefusesResumption : List ℕ → EncodeError → Type 0
+RefusesResumption trace errors.Failed = (last : DecoderState) × HasReadAll trace last × IsSome last.failure
+RefusesResumption trace errors.OutOfMemory = ⊤
+RefusesResumption trace error = ⊥
+
+-- an encoder that goes on after the trace, or why there is none
+abbrev pub AnswersResumption : List ℕ → Result (EncoderView (Vec ℕ Global)) EncodeError → Type 0
+AnswersResumption trace (Ok encoder) = GoesOnAfter trace encoder.state
+AnswersResumption trace (Err error) = RefusesResumption trace error
+
+-- the encoder goes on after the output, whose size is told; or that was refused, and all is as before
+abbrev pub Resumes : Playing → Note → Playing → Type 0
+Resumes p (notes.Resumed size) q = GoesOnAfter p.bytes q.state × (size ≡ length p.bytes) × (q ≡ record p { state = q.state })
+Resumes p (notes.Answered (Refused error)) q = RefusesResumption p.bytes error × (q ≡ p)
+Resumes p note q = ⊥
+
+-- a step that answers a note, and that note as a line
+abbrev pub IsNoted : (Playing → Note → Playing → Type 0) → Playing → Playing → Type 0
+IsNoted step p q = (note : Note) × (mid : Playing) × step p note mid × (q ≡ with_reply note mid)
 
 -- a call of a script leads from p to q
 abbrev pub Turns : Playing → Call → Playing → Type 0
@@ -191,7 +232,8 @@ Turns p (Define handle definition) q = q ≡ with_reply notes.Silent (with_schem
 Turns p (DefineType handle slot definition) q = (mid : Playing) × DefinesType handle slot definition p mid × (q ≡ with_reply notes.Silent mid)
 Turns p (Raw bytes) q = q ≡ with_reply notes.Silent (record p { bytes = p.bytes ++ bytes.items })
 Turns p Bare q = q ≡ with_reply notes.Silent (record p { bytes = [] })
-Turns p Reset q = IsReset p q
+Turns p Reset q = IsNoted Resets p q
+Turns p Resume q = IsNoted Resumes p q
 Turns p call q = IsAsked p call q
 
 -- calls lead from p to q, one after another

@@ -10,7 +10,7 @@ use Rattle.trace_writer.specs.declared.encoder.call.Reply.{Reply}
 use Rattle.trace_writer.specs.State.{EncoderView}
 use Rattle.trace_writer.specs.Calls.{Does, write_type}
 use Rattle.trace_recordings.specs.declared.typed.Sample.{Sample}
-use Rattle.trace_recordings.specs.declared.typed.Sample.TheVariants.{Borrowed, Numbers, FastSlot, Poll, Texts, Stacks, Annotated, LastSlot, ByName, Dynamic, PollAgain, PollNoted, SlotClash, AlsoByName, Nameless}
+use Rattle.trace_recordings.specs.declared.typed.Sample.TheVariants.{Borrowed, Numbers, Options, Wide, FastSlot, Poll, Texts, Stacks, Annotated, LastSlot, ByName, Dynamic, PollAgain, PollNoted, SlotClash, AlsoByName, Nameless}
 
 -- the slot
 abbrev pub slot_of : Sample → ℕ
@@ -29,6 +29,8 @@ slot_of AlsoByName = 256
 slot_of Nameless = 0
 slot_of Borrowed = 0
 slot_of Numbers = 1
+slot_of Options = 0
+slot_of Wide = 0
 
 -- the schema
 abbrev pub entry_in : Sample → Entry
@@ -47,9 +49,11 @@ entry_in AlsoByName = entries.also
 entry_in Nameless = entries.nameless
 entry_in Borrowed = entries.borrowed
 entry_in Numbers = entries.numbers
+entry_in Options = entries.options
+entry_in Wide = entries.wide
 
 abbrev pub samples : List Sample
-samples = FastSlot ∷ Poll ∷ Texts ∷ Stacks ∷ Annotated ∷ LastSlot ∷ ByName ∷ Dynamic ∷ PollAgain ∷ PollNoted ∷ SlotClash ∷ AlsoByName ∷ Nameless ∷ Numbers ∷ Borrowed ∷ []
+samples = FastSlot ∷ Poll ∷ Texts ∷ Stacks ∷ Annotated ∷ LastSlot ∷ ByName ∷ Dynamic ∷ PollAgain ∷ PollNoted ∷ SlotClash ∷ AlsoByName ∷ Nameless ∷ Numbers ∷ Borrowed ∷ Options ∷ Wide ∷ []
 
 -- a sample has this slot and this schema
 abbrev pub is_sample : ℕ → Entry → Sample → Bool

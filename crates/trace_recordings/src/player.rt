@@ -5,12 +5,13 @@ ghost use Rattle.std.specs.List.{AllByRecursion};
 ghost use Rattle.trace_wire.specs.PoolEntries.{string_entries_of, stack_entries_of};
 ghost use Rattle.trace_writer.specs.Calls.{reply_from};
 ghost use Rattle.trace_recordings.specs.declared.player.PlayError.TheVariants as errors;
-ghost use Rattle.trace_recordings.specs.Playing.{DefinesType, IsOfScript, IsPlayed, Asks, DoesCall, Resets, Turns, answer_text, asks, defined_in, entry_of, under, pool_stack_of, pool_text_of, playing_of, refusal_text, reply_line, start, with_reply, with_schema};
+ghost use Rattle.trace_recordings.specs.Playing.{AnswersResumption, DefinesType, IsOfScript, IsPlayed, Asks, DoesCall, Resets, Resumes, Turns, answer_text, asks, defined_in, entry_of, under, pool_stack_of, pool_text_of, playing_of, refusal_text, reply_line, start, with_reply, with_schema};
 ghost use Rattle.trace_recordings.specs.Samples.{is_sample, place_of};
-ghost use Rattle.trace_recordings.specs.Refusals.{IsHad, IsOfPlayer, IsUnheld, LacksType, LeavesOut, MissesAt, Refuses, RefusesCall, RefusesUnder, misses};
+ghost use Rattle.trace_recordings.specs.Refusals.{IsHad, IsOfPlayer, IsUnheld, LacksHeader, LacksType, LeavesOut, MissesAt, Refuses, RefusesCall, RefusesUnder, misses};
 
 use crate::script::{Call, Definition, Fault, PoolStack, PoolText, ScriptError, script_of};
 use crate::typed::{Sample, Unheld, sample_in, write_sample};
+use dial9_trace_format::decoder::Decoder;
 use std::alloc::{AllocError, AllocFailed, Global};
 use std::collections::BTreeMap;
 use thiserror::Error;
@@ -34,12 +35,14 @@ pub struct Played {
 pub enum PlayError {
     #[error("{0}")]
     Script(ScriptError),
-    #[error("line {line}: the library has no call for `{call}` yet")]
+    #[error("line {line}: no sample type is this `{call}`")]
     LeftOut { line: usize, call: &'static str },
     #[error("line {line}: no schema has the handle {handle}")]
     Unknown { line: usize, handle: u64 },
     #[error("line {line}: the type has no event of these values")]
     Unheld { line: usize },
+    #[error("line {line}: the output begins with no header")]
+    Headless { line: usize },
     #[error("no encoder: {0}")]
     Encoder(EncodeError),
     #[error("out of memory")]
@@ -53,8 +56,10 @@ impl PlayError {
     {
         match self {
             PlayError::Script(error) => error.fault != Fault::Memory,
-            PlayError::LeftOut { .. } | PlayError::Unknown { .. } | PlayError::Unheld { .. } =>
-                true,
+            PlayError::LeftOut { .. }
+            | PlayError::Unknown { .. }
+            | PlayError::Unheld { .. }
+            | PlayError::Headless { .. } => true,
             PlayError::Encoder(_) | PlayError::Memory => false,
         }
     }
@@ -84,7 +89,7 @@ impl<T: Drop> From<AllocFailed<T>> for PlayError {
     }
 }
 
-/// Reads a script, and makes its calls in their order. A script with a call that the library has not is not begun.
+/// Reads a script, and makes its calls in their order. A script with a type that is none of the samples is not begun.
 #[tactic(auto, using(crate::proofs::RefusalLemmas::not_begun, crate::proofs::RefusalLemmas::no_player))]
 pub fn play(alloc: Global, text: &[u8]) -> Result<Played, PlayError>
     ensures played { IfOk result (λ played. IsPlayed text.now played.bytes.items (string_bytes played.replies)) }
@@ -101,7 +106,7 @@ pub fn play(alloc: Global, text: &[u8]) -> Result<Played, PlayError>
     Ok(player.into_played())
 }
 
-// Refuses a script with a call that the library has not, by the first of them.
+// Refuses a script with a type that is none of the samples, by the first of them.
 fn admit(alloc: Global, script: &[Call]) -> Result<(), PlayError>
     ensures admitted { OnOk result (AllByRecursion IsHad script.now) }
     ensures refused { IfErr result (LeavesOut script.now) }
@@ -112,7 +117,7 @@ fn admit(alloc: Global, script: &[Call]) -> Result<(), PlayError>
     Ok(())
 }
 
-// Refuses the call of a line that the library has not.
+// Refuses the call of a line that makes a type which is none of the samples.
 fn admit_call(alloc: Global, line: usize, call: &Call) -> Result<(), PlayError>
     ensures admitted { OnOk result (misses call.now ≡ false) }
     ensures refused { IfErr result (MissesAt line call.now) }
@@ -126,7 +131,7 @@ fn admit_call(alloc: Global, line: usize, call: &Call) -> Result<(), PlayError>
     Ok(())
 }
 
-// Whether the library has not the call.
+// Whether the call makes a type that is none of the samples.
 fn is_missing(alloc: Global, call: &Call) -> Result<bool, AllocError>
     ensures { IfOk result (λ missing. missing ≡ misses call.now) }
 {
@@ -136,7 +141,6 @@ fn is_missing(alloc: Global, call: &Call) -> Result<bool, AllocError>
             definition,
             ..
         } => Ok(sample_of(alloc, *slot, definition)?.is_none()),
-        Call::Resume => Ok(true),
         _ => Ok(false),
     }
 }
@@ -163,6 +167,8 @@ enum Note {
     Answered(Reply),
     // A new trace was begun.
     Reset,
+    // The encoder was replaced by one that goes on after an output of this many bytes.
+    Resumed { length: usize },
 }
 
 // What a script defined, by its handles.
@@ -203,7 +209,7 @@ impl Player {
     }
 
     // Makes the call of a line, and notes its reply.
-    #[tactic(auto, using(crate::proofs::RefusalLemmas::lacks_type))]
+    #[tactic(auto, using(crate::proofs::RefusalLemmas::lacks_type, crate::proofs::RefusalLemmas::lacks_header, crate::proofs::RefusalLemmas::under_definitions))]
     fn make(&mut self, line: usize, call: &Call) -> Result<(), PlayError>
         ensures turns { OnOk result (Turns (playing_of self.old) call.now (playing_of self.new)) }
         ensures refused { IfErr result (RefusesCall (playing_of self.old) line call.now) }
@@ -232,6 +238,10 @@ impl Player {
             }
             Call::Reset => {
                 let note = self.reset()?;
+                self.note(note)
+            }
+            Call::Resume => {
+                let note = self.resume(line)?;
                 self.note(note)
             }
             other => {
@@ -295,7 +305,24 @@ impl Player {
         }
     }
 
+    // Puts an encoder that goes on after the output in the place of the one before.
+    fn resume(&mut self, line: usize) -> Result<Note, PlayError>
+        ensures resumes { IfOk result (λ note. Resumes (playing_of self.old) note (playing_of self.new)) }
+        ensures refused { IfErr result (LacksHeader line (playing_of self.old).bytes) }
+    {
+        match encoder_after(self.alloc, line, &self.played.bytes)? {
+            Ok(encoder) => {
+                self.encoder = encoder;
+                Ok(Note::Resumed {
+                    length: self.played.bytes.len(),
+                })
+            }
+            Err(error) => Ok(Note::Answered(Reply::Refused(error))),
+        }
+    }
+
     // Makes a call of the encoder, and appends what it sent to the output.
+    #[tactic(auto, using(crate::proofs::RefusalLemmas::under_definitions))]
     fn ask(&mut self, line: usize, call: &Call) -> Result<Reply, PlayError>
         requires { asks call.now ≡ true }
         ensures asked { IfOk result (λ reply. Asks (playing_of self.old) call.now reply (playing_of self.new)) }
@@ -318,6 +345,24 @@ impl Player {
             played,
         } = self;
         played
+    }
+}
+
+// The encoder that a decoder becomes which has read a trace to its end.
+fn encoder_after(
+    alloc: Global,
+    line: usize,
+    trace: &[u8],
+) -> Result<Result<Encoder, EncodeError>, PlayError>
+    ensures answers { IfOk result (AnswersResumption trace.now) }
+    ensures refused { IfErr result (LacksHeader line trace.now) }
+{
+    let Some(mut decoder) = Decoder::new(alloc, trace) else {
+        return Err(PlayError::Headless { line });
+    };
+    match decoder.decode_all() {
+        Ok(_) => Ok(decoder.into_encoder(Vec::new(alloc))),
+        Err(_) => Err(PlayError::Memory),
     }
 }
 
@@ -484,6 +529,7 @@ fn push_reply(out: &mut String, note: Note, written: u64) -> Result<(), AllocErr
     match note {
         Note::Silent => out.push_str("-")?,
         Note::Reset => out.push_str("reset")?,
+        Note::Resumed { length } => write!(out, "resume {length}")?,
         Note::Answered(reply) => push_answer(out, reply)?,
     }
     writeln!(out, " bytes={written}")

@@ -13,15 +13,15 @@ use crate::player::done;
 use events::HoldsValues;
 use std::alloc::{AllocError, AllocFailed, Global};
 use trace_samples::events::{
-    AlsoByName, Annotated, Borrowed, ByName, Dynamic, FastSlot, LastSlot, Nameless, Numbers, Poll,
-    PollAgain, PollNoted, SlotClash, Stacks, Texts,
+    AlsoByName, Annotated, Borrowed, ByName, Dynamic, FastSlot, LastSlot, Nameless, Numbers,
+    Options, Poll, PollAgain, PollNoted, SlotClash, Stacks, Texts, Wide,
 };
 use trace_values::types::FieldValue;
 use trace_wire::schema::SchemaEntry;
 use trace_writer::encoder::{Encoder, Reply};
 use trace_writer::event::TraceEvent;
 
-/// A sample type that scripts may name: all but `Options` and `Wide`.
+/// A sample type that scripts may name.
 #[derive(Clone, Copy, PartialEq, Eq)]
 pub enum Sample {
     FastSlot,
@@ -39,10 +39,12 @@ pub enum Sample {
     Nameless,
     Numbers,
     Borrowed,
+    Options,
+    Wide,
 }
 
 // All of them.
-const SAMPLES: [Sample; 15] = [
+const SAMPLES: [Sample; 17] = [
     Sample::FastSlot,
     Sample::Poll,
     Sample::Texts,
@@ -58,6 +60,8 @@ const SAMPLES: [Sample; 15] = [
     Sample::Nameless,
     Sample::Numbers,
     Sample::Borrowed,
+    Sample::Options,
+    Sample::Wide,
 ];
 
 /// Why no field or event holds a value.
@@ -123,6 +127,8 @@ fn is_of(sample: Sample, slot: u64, entry: &SchemaEntry) -> bool
         Sample::Nameless => is_type::<Nameless>(slot, entry),
         Sample::Borrowed => is_type::<Borrowed<'_>>(slot, entry),
         Sample::Numbers => is_type::<Numbers>(slot, entry),
+        Sample::Options => is_type::<Options>(slot, entry),
+        Sample::Wide => is_type::<Wide>(slot, entry),
     }
 }
 
@@ -159,6 +165,8 @@ pub fn write_sample(
         Sample::Nameless => write_as::<Nameless>(alloc, encoder, time, values),
         Sample::Borrowed => write_as::<Borrowed<'_>>(alloc, encoder, time, values),
         Sample::Numbers => write_as::<Numbers>(alloc, encoder, time, values),
+        Sample::Options => write_as::<Options>(alloc, encoder, time, values),
+        Sample::Wide => write_as::<Wide>(alloc, encoder, time, values),
     }
 }
 

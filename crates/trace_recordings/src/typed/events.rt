@@ -7,8 +7,8 @@ use crate::typed::Unheld;
 use crate::typed::fields::HoldsValue;
 use std::alloc::Global;
 use trace_samples::events::{
-    AlsoByName, Annotated, Borrowed, ByName, Dynamic, FastSlot, LastSlot, Nameless, Numbers, Poll,
-    PollAgain, PollNoted, SlotClash, Stacks, Texts,
+    AlsoByName, Annotated, Borrowed, ByName, Dynamic, FastSlot, LastSlot, Nameless, Numbers,
+    Options, Poll, PollAgain, PollNoted, SlotClash, Stacks, Texts, Wide,
 };
 use trace_values::types::{
     BytesField, F64Bits, FieldValue, InternedStackFrames, InternedString, StackFrames, StrField,
@@ -212,6 +212,98 @@ impl<'a> HoldsValues<'a> for Borrowed<'a> {
             body: BytesField::of_value(alloc, body)?,
             note: Option::<StrField>::of_value(alloc, note)?,
             rest: Option::<BytesField>::of_value(alloc, rest)?,
+        })
+    }
+}
+
+impl<'a> HoldsValues<'a> for Options {
+    fn of_values(alloc: Global, time: u64, values: &'a [FieldValue]) -> Result<Options, Unheld> {
+        let [
+            byte,
+            short,
+            word,
+            long,
+            signed,
+            real,
+            flag,
+            text,
+            blob,
+            frames,
+            label,
+            stack,
+            pairs,
+        ] = values
+        else {
+            return Err(Unheld::Unfit);
+        };
+        Ok(Options {
+            time,
+            byte: Option::<u8>::of_value(alloc, byte)?,
+            short: Option::<u16>::of_value(alloc, short)?,
+            word: Option::<u32>::of_value(alloc, word)?,
+            long: Option::<u64>::of_value(alloc, long)?,
+            signed: Option::<i64>::of_value(alloc, signed)?,
+            real: Option::<F64Bits>::of_value(alloc, real)?,
+            flag: Option::<bool>::of_value(alloc, flag)?,
+            text: Option::<String>::of_value(alloc, text)?,
+            blob: Option::<Vec<u8>>::of_value(alloc, blob)?,
+            frames: Option::<StackFrames>::of_value(alloc, frames)?,
+            label: Option::<InternedString>::of_value(alloc, label)?,
+            stack: Option::<InternedStackFrames>::of_value(alloc, stack)?,
+            pairs: Option::<Vec<(String, String)>>::of_value(alloc, pairs)?,
+        })
+    }
+}
+
+impl<'a> HoldsValues<'a> for Wide {
+    fn of_values(alloc: Global, time: u64, values: &'a [FieldValue]) -> Result<Wide, Unheld> {
+        let [
+            v0,
+            v1,
+            v2,
+            v3,
+            v4,
+            v5,
+            v6,
+            v7,
+            v8,
+            v9,
+            v10,
+            v11,
+            v12,
+            v13,
+            v14,
+            v15,
+            v16,
+            v17,
+            v18,
+            v19,
+        ] = values
+        else {
+            return Err(Unheld::Unfit);
+        };
+        Ok(Wide {
+            time,
+            v0: u64::of_value(alloc, v0)?,
+            v1: u64::of_value(alloc, v1)?,
+            v2: u64::of_value(alloc, v2)?,
+            v3: u64::of_value(alloc, v3)?,
+            v4: u64::of_value(alloc, v4)?,
+            v5: u64::of_value(alloc, v5)?,
+            v6: u64::of_value(alloc, v6)?,
+            v7: u64::of_value(alloc, v7)?,
+            v8: u64::of_value(alloc, v8)?,
+            v9: u64::of_value(alloc, v9)?,
+            v10: u64::of_value(alloc, v10)?,
+            v11: u64::of_value(alloc, v11)?,
+            v12: u64::of_value(alloc, v12)?,
+            v13: u64::of_value(alloc, v13)?,
+            v14: u64::of_value(alloc, v14)?,
+            v15: u64::of_value(alloc, v15)?,
+            v16: u64::of_value(alloc, v16)?,
+            v17: u64::of_value(alloc, v17)?,
+            v18: u64::of_value(alloc, v18)?,
+            v19: u64::of_value(alloc, v19)?,
         })
     }
 }

@@ -1,6 +1,6 @@
 use Rattle.std.proofs.Common.{rules, ◌≡◌}
-use Rattle.trace_recordings.specs.declared.script.call.Call.TheVariants.{DefineType, Reset}
-use Rattle.trace_recordings.proofs.PlayingLemmas.{asked_turn, reset_turn, type_turn}
+use Rattle.trace_recordings.specs.declared.script.call.Call.TheVariants.{DefineType, Reset, Resume}
+use Rattle.trace_recordings.proofs.PlayingLemmas.{asked_turn, reset_turn, resume_turn, type_turn}
 use Rattle.trace_recordings.specs.Playing.{playing_of}
 use Rattle.trace_recordings.proofs.RefusalLemmas.{no_memory_in}
 use Rattle.trace_recordings.proofs.player.Player.make.Goals as goal
@@ -18,6 +18,14 @@ returns-in_ok-note-in-Reset-clause-turns c =
 
 pub returns-in_ok-note-in-Reset-clause-refused : goal.returns-in_ok-note-in-Reset-clause-refused
 returns-in_ok-note-in-Reset-clause-refused c = no_memory_in c.note-in-Reset.result (playing_of c.args.self.now) c.args.line c.args.call.now c.note-in-Reset.ensures.refused
+
+pub returns-in_ok-note-in-Resume-clause-turns : goal.returns-in_ok-note-in-Resume-clause-turns
+returns-in_ok-note-in-Resume-clause-turns c =
+    let is : c.args.call.now ≡ Resume = search rules in
+    resume_turn c.note-in-Resume.result _ _ _ _ _ is c.in_ok-note-in-Resume.ensures.resumes c.note-in-Resume.ensures.noted
+
+pub returns-in_ok-note-in-Resume-clause-refused : goal.returns-in_ok-note-in-Resume-clause-refused
+returns-in_ok-note-in-Resume-clause-refused c = no_memory_in c.note-in-Resume.result (playing_of c.args.self.now) c.args.line c.args.call.now c.note-in-Resume.ensures.refused
 
 pub returns-in_ok-define_type-in-DefineType-clause-turns : goal.returns-in_ok-define_type-in-DefineType-clause-turns
 returns-in_ok-define_type-in-DefineType-clause-turns c =
