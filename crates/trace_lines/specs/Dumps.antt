@@ -6,8 +6,9 @@ use Rattle.trace_wire.specs.Schemas.{Shape}
 use Rattle.trace_wire.specs.Frames.{Grammar, empty, Frame, Schema}
 use Rattle.trace_wire.specs.Runs.{Begins, Ending, Whole, Stopped, Conflict, IsLongest, Item, items, Pools, no_pools}
 use Rattle.dial9_trace_format.specs.Decoding.{StartsWith}
+use Rattle.dial9_trace_format.specs.Sinks.{events_of}
 use Rattle.trace_lines.specs.Lines.{line, item_line, first_line, no_header_line, whole_line, stopped_line, conflict_line}
-use Rattle.trace_lines.specs.ResolvedLines.{event_lines, events_of}
+use Rattle.trace_lines.specs.ResolvedLines.{event_lines}
 
 -- which reader a dump is of: that of owned values; where events are resolved, that of borrowed ones
 abbrev pub reader_of : Bool → Kind
