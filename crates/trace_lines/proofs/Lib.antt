@@ -5,3 +5,4 @@ mod DumpLemmas
 mod Growing
 mod Placing
 mod Gathering
+mod RawPairs
