@@ -14,6 +14,7 @@ mod fields;
 mod frames;
 mod iterators;
 mod lent;
+mod mixed;
 mod numbers;
 mod plain;
 mod pools;
