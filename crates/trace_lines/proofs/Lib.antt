@@ -6,3 +6,4 @@ mod Growing
 mod Placing
 mod Gathering
 mod EventLines
+mod RawPairs

@@ -9,20 +9,29 @@ use Rattle.dial9_trace_format.specs.Decoding.{StartsWith}
 use Rattle.dial9_trace_format.specs.Sinks.{events_of}
 use Rattle.trace_lines.specs.Lines.{line, item_line, first_line, no_header_line, whole_line, stopped_line, conflict_line}
 use Rattle.trace_lines.specs.ResolvedLines.{event_lines}
+use Rattle.trace_lines.specs.declared.dump.Form.{Form}
+use Rattle.trace_lines.specs.declared.dump.Form.TheVariants.{Frames, Events}
+use Rattle.trace_lines.specs.declared.dump.Reader.{Reader}
+use Rattle.trace_lines.specs.declared.dump.Reader.TheVariants.{Owned, Borrowed}
 
--- which reader a dump is of: that of owned values; where events are resolved, that of borrowed ones
-abbrev pub reader_of : Bool → Kind
-reader_of false = owned_reader
-reader_of true = borrowed
+-- which kind a reader is
+abbrev pub kind_of : Reader → Kind
+kind_of Owned = owned_reader
+kind_of Borrowed = borrowed
+
+-- which reader a dump is of: where events are resolved, that of borrowed values
+abbrev pub reader_of : Form → Kind
+reader_of (Frames reader) = kind_of reader
+reader_of Events = borrowed
 
 -- the line of each item
 abbrev pub item_lines : List Item → List ℕ
 item_lines shown = flat_map (λ i. line (item_line i)) shown
 
 -- the lines of frames that are read one after another, in a state and with pools: of each item, or of each event, resolved
-abbrev pub frame_lines : Bool → Grammar → Pools → List Frame → List ℕ
-frame_lines false g p frames = item_lines (items frames)
-frame_lines true g p frames = event_lines (events_of g p frames)
+abbrev pub frame_lines : Form → Grammar → Pools → List Frame → List ℕ
+frame_lines (Frames reader) g p frames = item_lines (items frames)
+frame_lines Events g p frames = event_lines (events_of g p frames)
 
 -- The last line and the status, where the longest run over bytes of a size ends before the rest. A place is told by the
 -- bytes before it: before the rest, or after the schema that differs from what its wire id stands for.
@@ -34,15 +43,15 @@ IsEnd k size last rest Conflict status text =
 
 -- the lines after the first, of bytes that end an input of a size, in a state and with pools: those of the longest run of the
 -- reader, and of its end
-pub record IsDumpFrom (resolve : Bool) (g : Grammar) (p : Pools) (size : ℕ) (bytes : List ℕ) (status : ℕ) (text : List ℕ) : Type 0 where
+pub record IsDumpFrom (form : Form) (g : Grammar) (p : Pools) (size : ℕ) (bytes : List ℕ) (status : ℕ) (text : List ℕ) : Type 0 where
   pub frames : List Frame
   pub rest : List ℕ
   pub end : Ending
   pub last : Grammar
-  pub longest : IsLongest (reader_of resolve) g bytes frames rest end last
+  pub longest : IsLongest (reader_of form) g bytes frames rest end last
   pub last_line : List ℕ
-  pub ends : IsEnd (reader_of resolve) size last rest end status last_line
-  pub text_is : text ≡ frame_lines resolve g p frames ++ line last_line
+  pub ends : IsEnd (reader_of form) size last rest end status last_line
+  pub text_is : text ≡ frame_lines form g p frames ++ line last_line
 
 -- the dump of an input that does not begin with a header
 pub record IsNoDump (input : List ℕ) (status : ℕ) (text : List ℕ) : Type 0 where
@@ -51,19 +60,32 @@ pub record IsNoDump (input : List ℕ) (status : ℕ) (text : List ℕ) : Type 0
   pub text_is : text ≡ line no_header_line
 
 -- the dump of a stream: its version, and the lines of what stands after the five bytes of its header
-pub record IsStreamDump (resolve : Bool) (input : List ℕ) (status : ℕ) (text : List ℕ) : Type 0 where
+pub record IsStreamDump (form : Form) (input : List ℕ) (status : ℕ) (text : List ℕ) : Type 0 where
   pub version : ℕ
   pub header : StartsWith input version
   pub lines : List ℕ
-  pub behind : IsDumpFrom resolve empty no_pools (length input) (drop 5 input) status lines
+  pub behind : IsDumpFrom form empty no_pools (length input) (drop 5 input) status lines
   pub text_is : text ≡ line (first_line version) ++ lines
+
+-- the dump of any input in a form
+abbrev pub IsDumpAs : Form → List ℕ → ℕ → List ℕ → Type 0
+IsDumpAs form input status text = IsNoDump input status text ⊎ IsStreamDump form input status text
+
+-- the form of a dump where events are resolved, or not
+abbrev pub form_by : Bool → Form
+form_by false = Frames Owned
+form_by true = Events
 
 -- the dump of any input: of all its items as they are, or of its events, resolved
 abbrev pub IsDump : Bool → List ℕ → ℕ → List ℕ → Type 0
-IsDump resolve input status text = IsNoDump input status text ⊎ IsStreamDump resolve input status text
+IsDump resolve = IsDumpAs (form_by resolve)
 
--- bytes that the dump of an input begins with
-pub record BeginsDump (resolve : Bool) (input : List ℕ) (written : List ℕ) : Type 0 where
+-- bytes that the dump of an input in a form begins with
+pub record BeginsDumpAs (form : Form) (input : List ℕ) (written : List ℕ) : Type 0 where
   pub status : ℕ
   pub behind : List ℕ
-  pub is : IsDump resolve input status (written ++ behind)
+  pub is : IsDumpAs form input status (written ++ behind)
+
+-- bytes that the dump of an input begins with
+abbrev pub BeginsDump : Bool → List ℕ → List ℕ → Type 0
+BeginsDump resolve = BeginsDumpAs (form_by resolve)

@@ -4,6 +4,7 @@
 pub mod dump;
 mod entries;
 mod lines;
+mod owning;
 pub mod program;
 mod resolved;
 pub mod text;

@@ -7,3 +7,4 @@ pub mod HeadLemmas
 pub mod RefusalLemmas
 pub mod FindingLemmas
 pub mod SampleLemmas
+pub mod SinkLemmas

@@ -1,8 +1,13 @@
 -- What a recording shows.
-use Rattle.std.specs.Prelude.{◌≡◌, ◌≢◌, ◌⊎◌, ◌↔◌, ℕ, Bool, true, false, is_some, List, [], Option, Some, None, Ok, String}
+use Rattle.std.specs.Prelude.{◌≡◌, ◌≢◌, ◌⊎◌, ◌↔◌, ℕ, List, [], Option, Some, None, Ok, String}
 use Rattle.std.specs.declared.alloc.Global.{Global}
 use Rattle.hex.specs.Hex.{decode_of}
-use Rattle.trace_lines.specs.Dumps.{IsDump}
+use Rattle.std.specs.Borrow.{Bor}
+use Rattle.trace_lines.specs.Dumps.{IsDumpAs}
+use Rattle.trace_lines.specs.declared.dump.Form.{Form}
+use Rattle.trace_lines.specs.declared.dump.Form.TheVariants.{Frames, Events}
+use Rattle.trace_lines.specs.declared.dump.Reader.TheVariants.{Borrowed}
+use Rattle.trace_recordings.specs.declared.findings.Findings.{Findings}
 use Rattle.trace_recordings.specs.declared.findings.Outcome.{Outcome}
 use Rattle.trace_recordings.specs.declared.findings.Outcome.TheVariants.{Absent, LeftOut, Compared}
 use Rattle.trace_recordings.specs.declared.player.PlayError.{PlayError}
@@ -14,12 +19,13 @@ use Rattle.trace_recordings.specs.Comparisons.{ended}
 use Rattle.trace_recordings.specs.Playing.{IsPlayed, IsOfScript}
 use Rattle.trace_recordings.specs.Refusals.{Refuses, FirstMissing}
 use Rattle.trace_recordings.specs.Scripts.{IsScript}
+use Rattle.trace_recordings.specs.Sinks.{IsSinkText}
 
 -- the trace has a dump, and no difference is told exactly where the recorded lines are that dump
-abbrev pub ShowsDump : Bool → List ℕ → List ℕ → Outcome → Type 0
-ShowsDump resolve trace lines Absent = ⊥
-ShowsDump resolve trace lines (LeftOut name) = ⊥
-ShowsDump resolve trace lines (Compared notes) = (status : ℕ) × (text : List ℕ) × IsDump resolve trace status text × ((notes.items ≡ []) ↔ (ended lines ≡ text))
+abbrev pub ShowsDump : Form → List ℕ → List ℕ → Outcome → Type 0
+ShowsDump form trace lines Absent = ⊥
+ShowsDump form trace lines (LeftOut name) = ⊥
+ShowsDump form trace lines (Compared notes) = (status : ℕ) × (text : List ℕ) × IsDumpAs form trace status text × ((notes.items ≡ []) ↔ (ended lines ≡ text))
 
 -- the script was played, and no difference is told exactly where the trace and the recorded replies are what its calls make
 pub record ShowsPlayed (trace : List ℕ) (calls : Calls) (notes : List (String Global)) : Type 0 where
@@ -54,22 +60,39 @@ IsUnread r = WhereRead r (λ trace. ⊥)
 -- the same of the dump with resolved events, where its lines were recorded
 abbrev pub ShowsResolved : List ℕ → Option Readings → Outcome → Type 0
 ShowsResolved trace None outcome = outcome ≡ Absent
-ShowsResolved trace (Some readings) outcome = ShowsDump true trace readings.resolved.now outcome
+ShowsResolved trace (Some readings) outcome = ShowsDump Events trace readings.resolved.now outcome
 
--- nothing is compared, and a difference is told
-abbrev pub ShowsUnread : (script dump resolved : Outcome) → Type 0
-ShowsUnread script Absent resolved = ⊥
-ShowsUnread script (LeftOut name) resolved = ⊥
-ShowsUnread script (Compared notes) resolved = (script ≡ Absent) × (resolved ≡ Absent) × (notes.items ≢ [])
+-- the lines of the borrowed reader's dump: those that were recorded as its own, or those of the dump where none were
+abbrev pub borrowed_lines : Option (Bor (List ℕ)) → List ℕ → List ℕ
+borrowed_lines None dump = dump
+borrowed_lines (Some lines) dump = lines.now
 
--- the borrowed reader has another dump
-abbrev pub has_borrowed : Option Readings → Bool
-has_borrowed None = false
-has_borrowed (Some readings) = is_some readings.borrowed
+-- the same of the dump of the borrowed reader
+abbrev pub ShowsBorrowed : List ℕ → List ℕ → Option Readings → Outcome → Type 0
+ShowsBorrowed trace dump None outcome = outcome ≡ Absent
+ShowsBorrowed trace dump (Some readings) outcome = ShowsDump (Frames Borrowed) trace (borrowed_lines readings.borrowed dump) outcome
 
--- a part that the library has nothing for is left out by its name, where it is there
-abbrev pub LeavesPart : Bool → List ℕ → Outcome → Type 0
-LeavesPart false name outcome = outcome ≡ Absent
-LeavesPart true name Absent = ⊥
-LeavesPart true name (LeftOut word) = word.now ≡ name
-LeavesPart true name (Compared notes) = ⊥
+-- no difference is told exactly where the recorded lines are what a sink is given of the trace
+abbrev pub ShowsSinkLines : List ℕ → List ℕ → Outcome → Type 0
+ShowsSinkLines trace lines Absent = ⊥
+ShowsSinkLines trace lines (LeftOut name) = ⊥
+ShowsSinkLines trace lines (Compared notes) = (text : List ℕ) × IsSinkText trace text × ((notes.items ≡ []) ↔ (ended lines ≡ text))
+
+-- the same, where its lines were recorded
+abbrev pub ShowsSink : List ℕ → Option Readings → Outcome → Type 0
+ShowsSink trace None outcome = outcome ≡ Absent
+ShowsSink trace (Some readings) outcome = ShowsSinkLines trace readings.sink.now outcome
+
+-- a difference is told
+abbrev pub TellsOne : Outcome → Type 0
+TellsOne Absent = ⊥
+TellsOne (LeftOut name) = ⊥
+TellsOne (Compared notes) = notes.items ≢ []
+
+-- nothing is compared, and a difference is told of the dump
+pub record ShowsUnread (f : Findings) : Type 0 where
+  pub script : f.script ≡ Absent
+  pub dump : TellsOne f.dump
+  pub borrowed : f.borrowed ≡ Absent
+  pub resolved : f.resolved ≡ Absent
+  pub sink : f.sink ≡ Absent

@@ -9,3 +9,4 @@ pub mod Tallies
 pub mod Program
 pub mod Refusals
 pub mod Samples
+pub mod Sinks

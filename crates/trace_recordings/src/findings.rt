@@ -1,15 +1,19 @@
 //! What a recording shows of the library.
 
-ghost use Rattle.std.specs.Prelude.{◌≡◌, ◌↔◌, [], false, IfOk, codes, is_some, string_bytes};
+ghost use Rattle.std.specs.Prelude.{◌≡◌, ◌↔◌, [], IfOk, codes, string_bytes};
 ghost use Rattle.trace_recordings.specs.Comparisons.{ended};
-ghost use Rattle.trace_recordings.specs.Findings.{has_borrowed, IsUnread, LeavesPart, ShowsDump, ShowsResolved, ShowsScript, ShowsUnread, WhereRead};
+ghost use Rattle.trace_recordings.specs.Findings.{borrowed_lines, IsUnread, ShowsBorrowed, ShowsDump, ShowsResolved, ShowsScript, ShowsSink, ShowsUnread, WhereRead};
 
 use crate::compare::{bytes_difference, lines_difference};
 use crate::player::{PlayError, Played, play};
 use crate::recording::{Calls, Readings, Recording};
+use crate::sink::sink_lines;
 use hex::FromHexError;
 use std::alloc::{AllocError, Global};
-use trace_lines::dump::{FAILED, dump};
+use trace_lines::dump::{FAILED, Form, Reader, dump_as};
+
+// By what name to speak of the lines of a sink.
+const SINK_NAME: &str = "what a sink is given";
 
 /// What became of a part of a recording.
 #[derive(Drop)]
@@ -27,7 +31,7 @@ pub enum Outcome {
 pub struct Findings {
     pub script: Outcome,
     pub dump: Outcome,
-    /// The dump of the borrowed reader, where it is another.
+    /// The dump of the borrowed reader.
     pub borrowed: Outcome,
     /// The dump with resolved events.
     pub resolved: Outcome,
@@ -35,71 +39,42 @@ pub struct Findings {
     pub sink: Outcome,
 }
 
-/// Plays the script of a recording and dumps its trace, as it is and with resolved events, and compares what comes of it with the
-/// recording. There is nothing yet to compare the other parts with.
+/// Plays the script of a recording, dumps its trace, by each reader and with resolved events, and shows its events to a sink, and compares
+/// what comes of it with the recording. Where the recorded bytes cannot be read that is told as a difference of the dump.
 pub fn findings_of(alloc: Global, recording: Recording<'_>) -> Result<Findings, AllocError>
-    ensures script { IfOk result (λ findings. WhereRead recording.entry (λ trace. ShowsScript trace recording.entry.calls findings.script)) }
-    ensures dump { IfOk result (λ findings. WhereRead recording.entry (λ trace. ShowsDump false trace recording.entry.dump.now findings.dump)) }
-    ensures resolved { IfOk result (λ findings. WhereRead recording.entry (λ trace. ShowsResolved trace recording.entry.readings findings.resolved)) }
-    ensures unread { IfOk result (λ findings. IsUnread recording.entry → ShowsUnread findings.script findings.dump findings.resolved) }
-    ensures borrowed { IfOk result (λ findings. LeavesPart (has_borrowed recording.entry.readings) (codes "borrowed") findings.borrowed) }
-    ensures sink { IfOk result (λ findings. LeavesPart (is_some recording.entry.readings) (codes "sink") findings.sink) }
-{
-    let (script, dump, resolved) = outcomes_of(alloc, recording)?;
-    let read = recording.readings.is_some();
-    Ok(Findings {
-        script,
-        dump,
-        borrowed: left_out(borrowed_differs(recording.readings), "borrowed"),
-        resolved,
-        sink: left_out(read, "sink"),
-    })
-}
-
-// Whether the dump of the borrowed reader is another.
-fn borrowed_differs(readings: Option<Readings<'_>>) -> bool
-    ensures { result ≡ has_borrowed readings.entry }
-{
-    match readings {
-        Some(readings) => readings.borrowed.is_some(),
-        None => false,
-    }
-}
-
-// A part is left out, where it is there.
-fn left_out(there: bool, name: &'static str) -> Outcome
-    ensures { LeavesPart there name.now result }
-{
-    if there {
-        Outcome::LeftOut(name)
-    } else {
-        Outcome::Absent
-    }
-}
-
-// What becomes of the script and of the dumps.
-fn outcomes_of(
-    alloc: Global,
-    recording: Recording<'_>,
-) -> Result<(Outcome, Outcome, Outcome), AllocError>
-    ensures script { IfOk result (λ x. WhereRead recording.entry (λ trace. ShowsScript trace recording.entry.calls x.0)) }
-    ensures dump { IfOk result (λ x. WhereRead recording.entry (λ trace. ShowsDump false trace recording.entry.dump.now x.1)) }
-    ensures resolved { IfOk result (λ x. WhereRead recording.entry (λ trace. ShowsResolved trace recording.entry.readings x.2)) }
-    ensures unread { IfOk result (λ x. IsUnread recording.entry → ShowsUnread x.0 x.1 x.2) }
+    ensures script { IfOk result (λ f. WhereRead recording.entry (λ trace. ShowsScript trace recording.entry.calls f.script)) }
+    ensures dump { IfOk result (λ f. WhereRead recording.entry (λ trace. ShowsDump (Form.Frames Reader.Owned) trace recording.entry.dump.now f.dump)) }
+    ensures borrowed { IfOk result (λ f. WhereRead recording.entry
+        (λ trace. ShowsBorrowed trace recording.entry.dump.now recording.entry.readings f.borrowed)) }
+    ensures resolved { IfOk result (λ f. WhereRead recording.entry (λ trace. ShowsResolved trace recording.entry.readings f.resolved)) }
+    ensures sink { IfOk result (λ f. WhereRead recording.entry (λ trace. ShowsSink trace recording.entry.readings f.sink)) }
+    ensures unread { IfOk result (λ f. IsUnread recording.entry → ShowsUnread f) }
 {
     match hex::decode(alloc, recording.bytes) {
-        Ok(trace) => Ok((
-            script_outcome(alloc, recording.calls, &trace)?,
-            dump_outcome(alloc, recording.dump, &trace, false)?,
-            resolved_outcome(alloc, recording.readings, &trace)?,
-        )),
+        Ok(trace) => Ok(Findings {
+            script: script_outcome(alloc, recording.calls, &trace)?,
+            dump: dump_outcome(alloc, recording.dump, &trace, Form::Frames(Reader::Owned))?,
+            borrowed: borrowed_outcome(alloc, recording.dump, recording.readings, &trace)?,
+            resolved: resolved_outcome(alloc, recording.readings, &trace)?,
+            sink: sink_outcome(alloc, recording.readings, &trace)?,
+        }),
         Err(FromHexError::OutOfMemory) => Err(AllocError),
-        Err(error) => {
-            let note = format!(in alloc; "the recorded bytes cannot be read: {error}")?;
-            let notes = vec![in alloc; note]?;
-            Ok((Outcome::Absent, Outcome::Compared(notes), Outcome::Absent))
-        }
+        Err(error) => unread_findings(alloc, &error),
     }
+}
+
+// What is shown where the digits of the recorded bytes cannot be read.
+fn unread_findings(alloc: Global, error: &FromHexError) -> Result<Findings, AllocError>
+    ensures { IfOk result ShowsUnread }
+{
+    let note = format!(in alloc; "the recorded bytes cannot be read: {error}")?;
+    Ok(Findings {
+        script: Outcome::Absent,
+        dump: Outcome::Compared(vec![in alloc; note]?),
+        borrowed: Outcome::Absent,
+        resolved: Outcome::Absent,
+        sink: Outcome::Absent,
+    })
 }
 
 // Plays a script, and compares the bytes and the replies.
@@ -147,6 +122,24 @@ fn played_differences(
     Ok(differences)
 }
 
+// Dumps a trace by the borrowed reader, where its readings were recorded. The lines are those of the dump where they have no others.
+fn borrowed_outcome(
+    alloc: Global,
+    lines: &str,
+    readings: Option<Readings<'_>>,
+    trace: &[u8],
+) -> Result<Outcome, AllocError>
+    ensures { IfOk result (ShowsBorrowed trace.now lines.now readings.entry) }
+{
+    match readings {
+        Some(readings) => {
+            let lines = readings.borrowed.unwrap_or(lines);
+            dump_outcome(alloc, lines, trace, Form::Frames(Reader::Borrowed))
+        }
+        None => Ok(Outcome::Absent),
+    }
+}
+
 // Dumps a trace with resolved events, where its lines were recorded.
 fn resolved_outcome(
     alloc: Global,
@@ -156,39 +149,50 @@ fn resolved_outcome(
     ensures { IfOk result (ShowsResolved trace.now readings.entry) }
 {
     match readings {
-        Some(readings) => dump_outcome(alloc, readings.resolved, trace, true),
+        Some(readings) => dump_outcome(alloc, readings.resolved, trace, Form::Events),
         None => Ok(Outcome::Absent),
     }
 }
 
-// Dumps a trace, and compares the lines, whose last one tells the status. A vector as a writer wants nothing but memory.
-fn dump_outcome(
+// Shows the events of a trace to a sink, where its lines were recorded.
+fn sink_outcome(
     alloc: Global,
-    lines: &str,
+    readings: Option<Readings<'_>>,
     trace: &[u8],
-    resolve: bool,
 ) -> Result<Outcome, AllocError>
-    ensures { IfOk result (ShowsDump resolve trace.now lines.now) }
+    ensures { IfOk result (ShowsSink trace.now readings.entry) }
+{
+    let Some(readings) = readings else {
+        return Ok(Outcome::Absent);
+    };
+    let found = sink_lines(alloc, trace)?;
+    let notes = text_differences(alloc, SINK_NAME, readings.sink, found.as_bytes())?;
+    Ok(Outcome::Compared(notes))
+}
+
+// Dumps a trace, and compares the lines, whose last one tells the status. A vector as a writer wants nothing but memory.
+fn dump_outcome(alloc: Global, lines: &str, trace: &[u8], form: Form) -> Result<Outcome, AllocError>
+    ensures { IfOk result (ShowsDump form trace.now lines.now) }
 {
     let mut found = Vec::new(alloc);
-    if dump(alloc, trace, &mut found, resolve) == FAILED {
+    if dump_as(alloc, trace, &mut found, form) == FAILED {
         return Err(AllocError);
     }
-    let notes = dump_differences(alloc, dump_name(resolve), lines, &found)?;
+    let notes = text_differences(alloc, dump_name(form), lines, &found)?;
     Ok(Outcome::Compared(notes))
 }
 
 // By what name to speak of a dump.
-fn dump_name(resolve: bool) -> &'static str {
-    if resolve {
-        "the resolved dump"
-    } else {
-        "the dump"
+fn dump_name(form: Form) -> &'static str {
+    match form {
+        Form::Frames(Reader::Owned) => "the dump",
+        Form::Frames(Reader::Borrowed) => "the borrowed dump",
+        Form::Events => "the resolved dump",
     }
 }
 
-// Compares the lines of a dump.
-fn dump_differences(
+// Compares the lines of a text that has this name.
+fn text_differences(
     alloc: Global,
     name: &str,
     lines: &str,

@@ -7,5 +7,6 @@ pub mod player;
 pub mod program;
 mod recording;
 mod script;
+mod sink;
 mod tally;
 mod typed;

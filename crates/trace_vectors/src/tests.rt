@@ -15,6 +15,7 @@ mod frames;
 mod iterators;
 mod layouts;
 mod lent;
+mod mixed;
 mod numbers;
 mod plain;
 mod pools;

@@ -9,12 +9,12 @@ use std::process::Abort;
 use std::test::Fail;
 
 /// `Decoder::next_frame_ref`.
-fn next_ref<'a>(decoder: &mut Decoder<'a>) -> Result<Option<DecodedFrameRef<'a>>, DecodeError> {
+pub fn next_ref<'a>(decoder: &mut Decoder<'a>) -> Result<Option<DecodedFrameRef<'a>>, DecodeError> {
     decoder.next_frame_ref()
 }
 
 /// `Decoder::next`.
-fn step<'a>(decoder: &mut Decoder<'a>) -> Option<Result<DecodedFrameRef<'a>, DecodeError>> {
+pub fn step<'a>(decoder: &mut Decoder<'a>) -> Option<Result<DecodedFrameRef<'a>, DecodeError>> {
     decoder.next()
 }
 

@@ -12,22 +12,22 @@ use std::process::Abort;
 use std::test::Fail;
 
 /// A header, and the schema `S` of wire id 256 with the field `o: OptionalU8`.
-const OPTIONAL: [u8; 18] = [
+pub const OPTIONAL: [u8; 18] = [
     0x54, 0x52, 0x43, 0x00, 0x01, 0x01, 0x00, 0x01, 0x01, 0x00, 0x53, 0x01, 0x01, 0x00, 0x01, 0x00,
     0x6F, 0x8B,
 ];
 
 /// Three events of `S` at 0 with no value, with 7 and with no value.
-const THREE_EVENTS: [u8; 22] = [
+pub const THREE_EVENTS: [u8; 22] = [
     0x02, 0x00, 0x01, 0x00, 0x00, 0x00, 0x00, 0x02, 0x00, 0x01, 0x00, 0x00, 0x00, 0x01, 0x07, 0x02,
     0x00, 0x01, 0x00, 0x00, 0x00, 0x00,
 ];
 
 /// Counts events, and adds their times.
 #[derive(Drop)]
-struct Seen {
-    events: u64,
-    times: u64,
+pub struct Seen {
+    pub events: u64,
+    pub times: u64,
 }
 
 impl<'a> EventVisitor<'a> for Seen {
@@ -133,6 +133,17 @@ fn overflow_before_fields(rt: HostRuntime) -> Result<(), Fail> {
     check_fault(&rt, rt.alloc(), &bytes, (0, 0), fault, 27)
 }
 
+/// The first of two fields is cut, and so is the second: the place of the first is told.
+#[test]
+fn first_field_first(rt: HostRuntime) -> Result<(), Fail> {
+    let bytes = [
+        0x54, 0x52, 0x43, 0x00, 0x01, 0x01, 0x00, 0x01, 0x01, 0x00, 0x53, 0x01, 0x02, 0x00, 0x01,
+        0x00, 0x73, 0x04, 0x01, 0x00, 0x6F, 0x8B, 0x02, 0x00, 0x01, 0x00, 0x00, 0x00, 0x05,
+    ];
+    let fault = (DecodeErrorKind::TruncatedValue, 28);
+    check_fault(&rt, rt.alloc(), &bytes, (0, 0), fault, 22)
+}
+
 #[test]
 fn text_that_is_not_utf8(rt: HostRuntime) -> Result<(), Fail> {
     let bytes = [
@@ -152,14 +163,14 @@ fn second_header_cut(rt: HostRuntime) -> Result<(), Fail> {
 
 /// Adds the numbers of events, and refuses the event after so many.
 #[derive(Drop)]
-struct Adding {
-    left: u8,
-    total: u64,
+pub struct Adding {
+    pub left: u8,
+    pub total: u64,
 }
 
 /// The event was not wanted.
 #[derive(Debug, Drop)]
-struct Unwanted;
+pub struct Unwanted;
 
 impl<'a> EventSink<'a, Unwanted> for Adding {
     ghost step = { λ _ _ _ _. Unit {0} };

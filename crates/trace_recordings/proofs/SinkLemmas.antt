@@ -1,0 +1,152 @@
+-- What a sink is given of a stream, from what the reader does.
+use Rattle.std.proofs.Common.{◌≡◌, ◌≢◌, ℕ, ◌+◌, ◌-◌, ◌≤◌, List, [], ◌∷◌, length, drop, min, None, String, string_bytes, Result, Ok, Err, IfOk, IfErr, codes, refl, sym, ap, subst, ◌∙◌, arith, inl, inr}
+use Rattle.std.proofs.lemmas.List.{length-append, length-drop}
+use Rattle.std.specs.declared.alloc.Global.{Global}
+use Rattle.trace_values.specs.Number.{AreBytes}
+use Rattle.trace_values.specs.Values.{borrowed}
+use Rattle.trace_values.proofs.FixedWidths.{AreBytes-right}
+use Rattle.trace_wire.specs.Frames.{Grammar, empty, Frame, Schema}
+use Rattle.trace_wire.specs.Runs.{Ending, Whole, Stopped, Conflict, no_pools}
+use Rattle.dial9_trace_format.specs.Decoding.{DecoderState, StartsWith, new_decoder, rest_of, Goes, Conflicts, FailsBy, error_at}
+use Rattle.dial9_trace_format.specs.ShownEvents.{ShownEvent}
+use Rattle.dial9_trace_format.specs.EventFaults.{FaultAt}
+use Rattle.dial9_trace_format.specs.Sinks.{Takes, visiting, events_of, TakesRun, HasFault, RunsSink, never_refused}
+use Rattle.dial9_trace_format.specs.declared.failure.Failure.{Failure}
+use Rattle.dial9_trace_format.specs.declared.failure.Failure.TheVariants as failures
+use Rattle.dial9_trace_format.specs.declared.decoder.error.DecodeError.{DecodeError}
+use Rattle.dial9_trace_format.specs.declared.decoder.error.DecodeErrorKind.{DecodeErrorKind}
+use Rattle.dial9_trace_format.specs.declared.decoder.error.DecodeErrorKind.TheVariants as kinds
+use Rattle.trace_wire.specs.declared.schema.WireTypeId.{WireTypeId}
+use Rattle.dial9_trace_format.proofs.FaultLemmas.{fault_is_no_frame}
+use Rattle.trace_recordings.specs.declared.sink.Counter.{Counter}
+use Rattle.trace_recordings.specs.Tallies.{counted_on}
+use Rattle.trace_recordings.specs.Sinks.{counts, EndsAt, sink_text, IsStreamSink}
+
+-- ---- the count
+
+one_more : (n more most : ℕ) → min (min n most + 1) most ≡ min (n + 1) most
+one_more n more most = omega arith
+
+counted_more : (n : ℕ) (s m : Counter) → s.events ≡ counted_on 0 n → m.events ≡ counted_on s.events 1 → m.events ≡ counted_on 0 (n + 1)
+counted_more n s m is more = omega (arith, is, more)
+
+counted_from : (n : ℕ) (events : List ShownEvent) (s t : Counter) → s.events ≡ counted_on 0 n → Takes (visiting {S = Counter} {E = ⊥} counts) events s t → t.events ≡ counted_on 0 (n + length events)
+counted_from n [] s t is same = subst (λ (x : Counter). x.events ≡ counted_on 0 (n + 0)) same (is ∙ ap (counted_on 0) (omega arith))
+counted_from n (e ∷ events) s t is (m, one, more) =
+    counted_from (n + 1) events m t (counted_more n s m is one) more ∙ ap (counted_on 0) (omega arith)
+
+-- ---- the place
+
+left_at : (position : ℕ) (input : List ℕ) → position ≤ length input → position + length (drop position input) ≡ length input
+left_at position input h = omega (arith, length-drop position input)
+
+goes_inside : (old new : DecoderState) (frames : List Frame) → Goes borrowed old new frames → old.position ≤ length old.input → new.position ≤ length new.input
+goes_inside old new frames g h =
+    let e : length (rest_of old) ≡ length g.core.here + length (rest_of new) = ap length g.core.parts ∙ length-append g.core.here (rest_of new) in
+    let same : length new.input ≡ length old.input = ap (λ (d : DecoderState). length d.input) g.moved in
+    let there : new.position ≡ old.position + length g.core.here = ap (λ (d : DecoderState). d.position) g.moved in
+    omega (arith, length-drop old.position old.input)
+
+place_of : (old new : DecoderState) (frames : List Frame) → Goes borrowed old new frames → old.position ≤ length old.input → new.position ≡ length old.input - length (rest_of new)
+place_of old new frames g h =
+    let same : length new.input ≡ length old.input = ap (λ (d : DecoderState). length d.input) g.moved in
+    omega (arith, same, left_at new.position new.input (goes_inside old new frames g h))
+
+-- ---- the end
+
+-- no fault stands where nothing is left
+no_fault : (g : Grammar) (n : ℕ) (kind : DecodeErrorKind) → FaultAt g [] n kind → ⊥
+no_fault g n kinds.TruncatedEvent f = cc
+no_fault g n (kinds.UnknownTypeId id) f = cc
+no_fault g n kinds.TruncatedDelta f = cc
+no_fault g n kinds.TimestampOverflow f = cc
+no_fault g n kinds.TruncatedPrefix f = cc
+no_fault g n kinds.TruncatedOptional f = cc
+no_fault g n kinds.TruncatedValue f = cc
+no_fault g n kinds.TruncatedReset f = cc
+no_fault g n (kinds.NoFrame tag) f = cc
+no_fault g n (kinds.Conflict id) f = f
+no_fault g n kinds.OutOfMemory f = f
+
+ends_whole : (input : List ℕ) (version : ℕ) (new : DecoderState) (frames : List Frame) → 5 ≤ length input → Goes borrowed (new_decoder input version) new frames → rest_of new ≡ [] → EndsAt input frames Whole new.position
+ends_whole input version new frames inside g done = record {
+  rest = rest_of new;
+  last = new.grammar;
+  longest = record { taken = g.core.here; parts = g.core.parts; run = g.core.run; ends = done };
+  place_is = place_of (new_decoder input version) new frames g inside;
+}
+
+ends_stopped : (input : List ℕ) (version : ℕ) (mid new : DecoderState) (e : DecodeError) (frames : List Frame) → 5 ≤ length input → AreBytes (drop 5 input) → Goes borrowed (new_decoder input version) mid frames → HasFault mid new e → EndsAt input frames Stopped new.position
+ends_stopped input version mid new e frames inside fits g f =
+    let left : AreBytes (rest_of mid) = AreBytes-right g.core.here (rest_of mid) (subst AreBytes g.core.parts fits) in
+    let some : rest_of mid ≢ [] = λ none. no_fault mid.grammar f.place e.kind (subst (λ (s : List ℕ). FaultAt mid.grammar s f.place e.kind) none f.fault) in
+    let at : EndsAt input frames Stopped mid.position = record {
+      rest = rest_of mid;
+      last = mid.grammar;
+      longest = record { taken = g.core.here; parts = g.core.parts; run = g.core.run; ends = (some, fault_is_no_frame mid.grammar (rest_of mid) f.place e.kind left f.fault) };
+      place_is = place_of (new_decoder input version) mid frames g inside;
+    } in
+    subst (λ (d : DecoderState). EndsAt input frames Stopped d.position) (sym f.same) at
+
+ends_conflict : (input : List ℕ) (version : ℕ) (mid new : DecoderState) (id : WireTypeId) (frames : List Frame) → 5 ≤ length input → Goes borrowed (new_decoder input version) mid frames → Conflicts borrowed mid new id → EndsAt input frames Conflict new.position
+ends_conflict input version mid new id frames inside g x =
+    let c = x.core in
+    let here = goes_inside (new_decoder input version) mid frames g inside in
+    let same : length mid.input ≡ length input = ap (λ (d : DecoderState). length d.input) g.moved in
+    let there : new.position ≡ mid.position + length c.begins.here = ap (λ (d : DecoderState). d.position) x.failed in
+    let e : length (rest_of mid) ≡ length c.begins.here + length (rest_of new) = ap length c.begins.parts ∙ length-append c.begins.here (rest_of new) in
+    let place : new.position ≡ length input - length (rest_of new) = omega (arith, same, left_at mid.position mid.input here) in
+    record {
+      rest = rest_of mid;
+      last = mid.grammar;
+      longest = record { taken = g.core.here; parts = g.core.parts; run = g.core.run; ends = (Schema id.0 c.shape, rest_of new, c.begins, c.no_step) };
+      place_is = (id.0, c.shape, rest_of new, c.begins, place);
+    }
+
+-- ---- the lines
+
+made : (input : List ℕ) (version : ℕ) (frames : List Frame) (end : Ending) (place count : ℕ) (told text : List ℕ) → StartsWith input version → EndsAt input frames end place → (end ≡ Whole → told ≡ codes "ok")
+    → count ≡ counted_on 0 (length (events_of empty no_pools frames)) → text ≡ sink_text count told place → IsStreamSink input text
+made input version frames end place count told text header ends whole is t = record {
+  version = version;
+  header = header;
+  frames = frames;
+  end = end;
+  place = place;
+  ends = ends;
+  told = told;
+  whole = whole;
+  text_is = t ∙ ap (λ (n : ℕ). sink_text n told place) is;
+}
+
+count_of : (input : List ℕ) (version : ℕ) (mid : DecoderState) (frames : List Frame) (s t : Counter) → s.events ≡ 0 → TakesRun (visiting {S = Counter} {E = ⊥} counts) (new_decoder input version) mid frames s t → t.events ≡ counted_on 0 (length (events_of empty no_pools frames))
+count_of input version mid frames s t none run = counted_from 0 (events_of empty no_pools frames) s t (none ∙ omega arith) run.taken ∙ ap (counted_on 0) (omega arith)
+
+fails_by : (input : List ℕ) (version : ℕ) (mid new : DecoderState) (e : DecodeError) (frames : List Frame) (failure : Failure) → 5 ≤ length input → Goes borrowed (new_decoder input version) mid frames → e.kind ≢ kinds.OutOfMemory → FailsBy borrowed mid new failure
+    → e ≡ error_at new.position failure → EndsAt input frames Conflict new.position
+fails_by input version mid new e frames (failures.Conflict id) inside g some x is = ends_conflict input version mid new id frames inside g x
+fails_by input version mid new e frames failures.OutOfMemory inside g some x is = absurd (some (ap (λ (x : DecodeError). x.kind) is))
+
+from_start : (input : List ℕ) (version : ℕ) (new : DecoderState) (s t : Counter) (result : Result (Unit {0}) DecodeError) (told text : List ℕ) → StartsWith input version → 5 ≤ length input → AreBytes (drop 5 input) → s.events ≡ 0
+    → RunsSink (visiting {S = Counter} {E = ⊥} counts) (new_decoder input version) new s t (never_refused result) → IfOk result (λ u. told ≡ codes "ok") → IfErr result (λ e. e.kind ≢ kinds.OutOfMemory)
+    → text ≡ sink_text t.events told new.position → IsStreamSink input text
+from_start input version new s t (Ok u) told text header inside fits none (frames, run, done) ok memory is =
+    made input version frames Whole new.position t.events told text header (ends_whole input version new frames inside run.goes done) (λ w. ok) (count_of input version new frames s t none run) is
+from_start input version new s t (Err e) told text header inside fits none (frames, mid, run, inl f) ok memory is =
+    made input version frames Stopped new.position t.events told text header (ends_stopped input version mid new e frames inside fits run.goes f) (λ w. absurd cc) (count_of input version mid frames s t none run) is
+from_start input version new s t (Err e) told text header inside fits none (frames, mid, run, inr f) ok memory is =
+    made input version frames Conflict new.position t.events told text header (fails_by input version mid new e frames f.failure inside run.goes memory f.fails f.error) (λ w. absurd cc) (count_of input version mid frames s t none run) is
+
+pub stream_sink : (r new : DecoderState) (s t : Counter) (result : Result (Unit {0}) DecodeError) (told : List ℕ) → StartsWith r.input r.version → r ≡ new_decoder r.input r.version → r.position ≤ length r.input → AreBytes (rest_of r) → s.events ≡ 0
+    → (r.failure ≡ None → RunsSink (visiting {S = Counter} {E = ⊥} counts) r new s t (never_refused result)) → IfOk result (λ u. told ≡ codes "ok") → IfErr result (λ e. e.kind ≢ kinds.OutOfMemory) → IsStreamSink r.input (sink_text t.events told new.position)
+stream_sink r new s t result told header is inside fits none runs ok memory =
+    let five : 5 ≤ length r.input = omega (arith, inside, ap (λ (d : DecoderState). d.position) is) in
+    let bytes : AreBytes (drop 5 r.input) = subst (λ (d : DecoderState). AreBytes (rest_of d)) is fits in
+    let run : RunsSink (visiting {S = Counter} {E = ⊥} counts) (new_decoder r.input r.version) new s t (never_refused result) =
+    subst (λ (d : DecoderState). RunsSink (visiting {S = Counter} {E = ⊥} counts) d new s t (never_refused result)) is (runs (ap (λ (d : DecoderState). d.failure) is)) in
+    from_start r.input r.version new s t result told (sink_text t.events told new.position) header five bytes none run ok memory refl
+
+-- what holds of the text that was made, where one was
+pub as_made : {E : Type 0} (r : Result (String Global) E) (is : List ℕ → Type 0) (text : List ℕ) → is text → IfOk r (λ s. string_bytes s ≡ text) → IfOk r (λ s. is (string_bytes s))
+as_made (Ok s) is text x e = subst is (sym e) x
+as_made (Err e) is text x y = tt
