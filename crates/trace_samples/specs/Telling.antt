@@ -11,20 +11,20 @@ use Rattle.trace_samples.specs.declared.script.Refusal.{Refusal}
 use Rattle.trace_samples.specs.declared.script.Refusal.TheVariants as refusals
 use Rattle.trace_samples.specs.Scripts.{next_refusal, spent, end_of}
 
--- the bytes that it accepted, its faults, whether it is settled, and how it goes on
+-- the bytes that it accepted, its faults, those of the bytes that it has not handed on yet, and how it goes on
 pub record Teller : Type 0 where
   pub bytes : List ℕ
   pub faults : Faults
-  pub settled : Bool
+  pub waiting : List ℕ
   pub script : Script
 
 -- it tells all
 abbrev pub all_told : Teller → Account
-all_told t = record { bytes = Some t.bytes; faults = Some t.faults; settled = Some t.settled }
+all_told t = record { bytes = Some t.bytes; faults = Some t.faults; waiting = Some t.waiting }
 
 -- it accepted nothing, and is settled
 abbrev pub unused : Script → Teller
-unused script = record { bytes = []; faults = NoFault; settled = true; script = script }
+unused script = record { bytes = []; faults = NoFault; waiting = []; script = script }
 
 -- how many bytes of a piece of this size it accepts next
 abbrev pub next_count : Teller → ℕ → ℕ

@@ -1,6 +1,6 @@
 //! A writer that tells all.
 
-ghost use Rattle.std.specs.Prelude.{◌≡◌, ◌≢◌, ◌≤◌, [], IfOk, length};
+ghost use Rattle.std.specs.Prelude.{◌≡◌, ◌≢◌, ◌≤◌, ◌↔◌, [], IfOk, IsTrue, length};
 ghost use Rattle.trace_values.specs.Sending.{Took, Holds, Settles, taken, send_faults, settle_faults};
 ghost use Rattle.trace_samples.specs.Telling.{all_told, unused, Follows, FollowsSettling, IsRefusal, script_spent};
 ghost use Rattle.trace_samples.specs.Scripts.{next_refusal};
@@ -11,26 +11,27 @@ use std::io::ErrorKind;
 use std::marker::Model;
 use trace_values::leb128::{Faults, TraceWrite};
 
-/// A writer over a fixed array. It tells the bytes that it accepted, its faults, and whether all bytes were handed on; it takes
+/// A writer over a fixed array. It tells the bytes that it accepted, its faults, and which bytes it has not handed on yet; it takes
 /// no memory, and fails as its script says.
 #[derive(Drop)]
 pub struct Told {
     buffer: [u8; ROOM],
     length: usize,
     faults: Faults,
-    settled: bool,
+    handed: usize,
     script: Script,
 }
 
 impl Model for Told {
-    ghost use Rattle.std.specs.Prelude.{take, ◌≤◌};
+    ghost use Rattle.std.specs.Prelude.{take, drop, ◌≤◌};
     ghost use Rattle.trace_samples.specs.Telling.{Teller};
 
     ghost Value = { Teller };
 
-    ghost view = { λ t. record { bytes = take t.length t.buffer; faults = t.faults; settled = t.settled; script = t.script } };
+    ghost view = { λ t. let bytes = take t.length t.buffer in
+        record { bytes = bytes; faults = t.faults; waiting = drop t.handed bytes; script = t.script } };
 
-    ghost invariant = { λ t. t.length ≤ 1024 };
+    ghost invariant = { λ t. (t.handed ≤ t.length) × (t.length ≤ 1024) };
 }
 
 impl TraceWrite for Told {
@@ -53,7 +54,6 @@ impl TraceWrite for Told {
         }
         self.buffer[self.length..self.length + count].copy_from_slice(&piece[..count]);
         self.length += count;
-        self.settled = false;
         Ok(count)
     }
 
@@ -68,7 +68,7 @@ impl TraceWrite for Told {
             self.faults.add(fault);
             return Err(io::Error::from(fault));
         }
-        self.settled = true;
+        self.handed = self.length;
         Ok(())
     }
 }
@@ -82,7 +82,7 @@ impl Told {
             buffer: [0; ROOM],
             length: 0,
             faults: Faults::NoFault,
-            settled: true,
+            handed: 0,
             script,
         }
     }
@@ -103,9 +103,9 @@ impl Told {
 
     /// Whether all bytes that it accepted were handed on.
     pub fn is_settled(&self) -> bool
-        ensures { result ≡ self.now.settled }
+        ensures { IsTrue result ↔ (self.now.waiting ≡ []) }
     {
-        self.settled
+        self.handed == self.length
     }
 
     // Refuses a piece that is not empty by the script, and notes the fault.

@@ -3,4 +3,4 @@ use Rattle.std.specs.Prelude.{None}
 use Rattle.dial9_trace_format.specs.Words.{Account}
 
 abbrev pub nothing_told : Account
-nothing_told = record { bytes = None; faults = None; settled = None }
+nothing_told = record { bytes = None; faults = None; waiting = None }
