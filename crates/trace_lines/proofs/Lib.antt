@@ -1,7 +1,8 @@
 mod HexDigits
-mod ProgramLemmas
+pub mod ProgramLemmas
 mod Joined
 mod DumpLemmas
 mod Growing
 mod Placing
 mod Gathering
+mod StatusLemmas
