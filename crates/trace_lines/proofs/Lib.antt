@@ -1,5 +1,5 @@
 mod HexDigits
-mod ProgramLemmas
+pub mod ProgramLemmas
 mod Joined
 mod DumpLemmas
 mod Growing
@@ -7,3 +7,4 @@ mod Placing
 mod Gathering
 mod EventLines
 mod RawPairs
+mod StatusLemmas

@@ -1,7 +1,8 @@
 //! The program `tracedump` (docs/FORMAT.md, "Dumps"): reads a trace from standard input, and writes the lines of what it
 //! holds to standard output. Programs call `run`, which decides nothing by itself.
 
-ghost use Rattle.std.specs.Prelude.{◌≡◌, ◌≢◌};
+ghost use Rattle.std.specs.Prelude.{◌≡◌, ◌≢◌, ◌≤◌};
+ghost use Rattle.std.specs.Process.{exit_status};
 ghost use Rattle.trace_values.specs.Sending.{IsSettled};
 ghost use Rattle.trace_lines.specs.Program.{AsksFor, WordsAskFor, resolves, DumpsAll, DumpsFront, note_for};
 
@@ -26,8 +27,10 @@ pub enum Task {
     Fail,
 }
 
-/// Runs the program, and answers the status with which it ends.
-pub fn run(rt: &(impl AllocGlobal + Env + Input + Print + Eprint)) -> ExitCode {
+/// Runs the program, and answers the status with which it ends: that of the dump, or `FAILED`.
+pub fn run(rt: &(impl AllocGlobal + Env + Input + Print + Eprint)) -> ExitCode
+    ensures { exit_status result ≤ FAILED }
+{
     let task = task_of(words_of(rt));
     let mut input = rt.reader();
     let mut output = Plain(io::writer(rt));
@@ -78,6 +81,7 @@ pub fn carry_out<R: Read, W: TraceWrite>(
     ensures front { DumpsFront (resolves task) (R.remaining input.old) (W.told out.old) (W.told out.new) }
     ensures lines { result ≢ FAILED → DumpsAll (resolves task) (R.remaining input.old) (W.told out.old) (W.told out.new) result }
     ensures settled { result ≢ FAILED → IsSettled (W.told out.new) }
+    ensures known { result ≤ FAILED }
 {
     let resolve = match task {
         Task::Dump => false,
