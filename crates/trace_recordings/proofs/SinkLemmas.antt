@@ -1,5 +1,5 @@
 -- What a sink is given of a stream, from what the reader does.
-use Rattle.std.proofs.Common.{◌≡◌, ◌≢◌, ℕ, ◌+◌, ◌-◌, ◌≤◌, List, [], ◌∷◌, length, drop, min, None, String, string_bytes, Result, Ok, Err, IfOk, IfErr, codes, refl, sym, ap, subst, ◌∙◌, arith, inl, inr}
+use Rattle.std.proofs.Common.{◌≡◌, ◌≢◌, ℕ, ◌+◌, ◌-◌, ◌≤◌, List, [], ◌∷◌, length, drop, None, String, string_bytes, Result, Ok, Err, IfOk, IfErr, codes, refl, sym, ap, subst, ◌∙◌, arith, inl, inr}
 use Rattle.std.proofs.lemmas.List.{length-append, length-drop}
 use Rattle.std.specs.declared.alloc.Global.{Global}
 use Rattle.trace_values.specs.Number.{AreBytes}
@@ -23,9 +23,6 @@ use Rattle.trace_recordings.specs.Tallies.{counted_on}
 use Rattle.trace_recordings.specs.Sinks.{counts, EndsAt, sink_text, IsStreamSink}
 
 -- ---- the count
-
-one_more : (n more most : ℕ) → min (min n most + 1) most ≡ min (n + 1) most
-one_more n more most = omega arith
 
 counted_more : (n : ℕ) (s m : Counter) → s.events ≡ counted_on 0 n → m.events ≡ counted_on s.events 1 → m.events ≡ counted_on 0 (n + 1)
 counted_more n s m is more = omega (arith, is, more)

@@ -65,12 +65,9 @@ fn told_of(alloc: Global, ended: &Result<(), DecodeError>) -> Result<String, All
 {
     match ended {
         Ok(()) => String::from_str(alloc, "ok"),
-        Err(
-            DecodeError {
-                kind: DecodeErrorKind::OutOfMemory,
-                ..
-            },
-        ) => Err(AllocError),
-        Err(error) => format!(in alloc; "{error}"),
+        Err(error) => match error.kind {
+            DecodeErrorKind::OutOfMemory => Err(AllocError),
+            _ => format!(in alloc; "{error}"),
+        },
     }
 }

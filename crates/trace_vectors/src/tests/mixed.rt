@@ -82,7 +82,12 @@ fn events_before_a_conflict(rt: HostRuntime) -> Result<(), Fail> {
     }
     assert!(rt; decoder.events().next().is_none());
     assert!(rt; step(&mut decoder).is_none());
-    check_no_more(&rt, &mut decoder, DecodeErrorKind::Conflict(WireTypeId(256)), 40);
+    check_no_more(
+        &rt,
+        &mut decoder,
+        DecodeErrorKind::Conflict(WireTypeId(256)),
+        40,
+    );
     check_no_more(&rt, &mut decoder, conflict, 40);
     assert!(rt; decoder.decode_all_ref()?.is_empty());
     Ok(())
