@@ -13,30 +13,42 @@ use trace_samples::{Script, Told};
 const LINES: &str =
     "trace version 1\nschema \"Ev\" \"v\":Varint\nevent 256 1000 Varint:42\nend whole\n";
 
+/// The lines of one event, resolved.
+const RESOLVED: &str =
+    "trace version 1\nevent \"Ev\" timestamp_ns=1000 \"v\"=Varint:42\nend whole\n";
+
+/// The lines of one event, as it is or resolved.
+fn lines_of(resolve: bool) -> &'static str {
+    if resolve { RESOLVED } else { LINES }
+}
+
 /// The dump of one event stops where the writer fails, is not tried again, and does not settle.
-fn check_stopped(rt: &impl Abort, alloc: Global, script: Script) {
+fn check_stopped(rt: &impl Abort, alloc: Global, script: Script, resolve: bool) {
     let mut told = Told::new(script);
-    assert_eq!(rt; dump(alloc, &ONE_EVENT, &mut told, false), FAILED);
-    let lines = LINES.as_bytes().get(..script.place).unwrap_or(&[]);
+    assert_eq!(rt; dump(alloc, &ONE_EVENT, &mut told, resolve), FAILED);
+    let lines = lines_of(resolve).as_bytes();
+    let lines = lines.get(..script.place).unwrap_or(&[]);
     let faults = Faults::OneFault(kind_of(script));
     check_told(rt, &told, lines, faults, lines.is_empty());
 }
 
 /// The dump over writers that fail at each place of its lines, each way, always and once, in steps of this size.
-fn check_each_place(rt: &impl Abort, alloc: Global, step: usize) {
-    for place in 0..LINES.len() {
+fn check_each_place(rt: &impl Abort, alloc: Global, step: usize, resolve: bool) {
+    for place in 0..lines_of(resolve).len() {
         for refusal in KINDS {
-            check_stopped(rt, alloc, breaking(step, place, refusal));
-            check_stopped(rt, alloc, once(breaking(step, place, refusal)));
+            check_stopped(rt, alloc, breaking(step, place, refusal), resolve);
+            check_stopped(rt, alloc, once(breaking(step, place, refusal)), resolve);
         }
     }
 }
 
 #[test]
 fn dump_stops_where_the_writer_fails(rt: HostRuntime) {
-    check_each_place(&rt, rt.alloc(), 1);
-    check_each_place(&rt, rt.alloc(), 7);
-    check_each_place(&rt, rt.alloc(), 1_024);
+    for resolve in [false, true] {
+        check_each_place(&rt, rt.alloc(), 1, resolve);
+        check_each_place(&rt, rt.alloc(), 7, resolve);
+        check_each_place(&rt, rt.alloc(), 1_024, resolve);
+    }
 }
 
 /// The dump of the bytes over a writer that does not fail: the writer is settled.

@@ -1,6 +1,6 @@
 //! Resolved events: dumps of them, and the call.
 
-use crate::tests::traces::HEADER;
+use crate::tests::traces::{HEADER, ONE_EVENT, OTHER_EV, joined};
 use dial9_trace_format::codec::WireTypeId;
 use dial9_trace_format::decoder::{Decoder, RawEvent};
 use dial9_trace_format::resolve::DeserError;
@@ -9,7 +9,7 @@ use dial9_trace_format::types::{FieldValueRef, InternedStackFrames, InternedStri
 use std::alloc::Global;
 use std::process::Abort;
 use std::test::Fail;
-use trace_lines::dump::{STOPPED, WHOLE, dump};
+use trace_lines::dump::{CONFLICT, NO_HEADER, STOPPED, WHOLE, dump};
 
 /// The text `io` under the id 0.
 const IO: [u8; 15] = [3, 1, 0, 0, 0, 0, 0, 0, 0, 2, 0, 0, 0, b'i', b'o'];
@@ -37,6 +37,21 @@ const UNKNOWN_VALUE: [u8; 20] = [2, 1, 1, 0, 0, 0, 1, 0, 0, 0, 7, 0, 0, 0, 0, 7,
 
 /// An event of `M` with the stack 4 as the value of the text 8.
 const UNKNOWN_KEY: [u8; 20] = [2, 1, 1, 0, 0, 0, 1, 0, 0, 0, 7, 8, 0, 0, 0, 6, 4, 0, 0, 0];
+
+/// The schema `P` with the fields `a`, a pooled text, and `b`, a pooled stack.
+const POOLED: [u8; 17] = [1, 3, 1, 1, 0, b'P', 1, 2, 0, 1, 0, b'a', 7, 1, 0, b'b', 6];
+
+/// An event of `P` with the text of the greatest id and the stack 4.
+const UNKNOWN_FIRST: [u8; 14] = [2, 3, 1, 0, 0, 0, 255, 255, 255, 255, 4, 0, 0, 0];
+
+/// An event of `P` with the text 0 and the stack of the greatest id.
+const UNKNOWN_LAST: [u8; 14] = [2, 3, 1, 0, 0, 0, 0, 0, 0, 0, 255, 255, 255, 255];
+
+/// The schema of a quote and a line feed, with a text named by a line feed and a quote.
+const QUOTES: [u8; 15] = [1, 2, 1, 2, 0, b'"', b'\n', 1, 1, 0, 2, 0, b'\n', b'"', 4];
+
+/// An event of it with a line feed.
+const LINE_FEED: [u8; 11] = [2, 2, 1, 0, 0, 0, 1, 0, 0, 0, b'\n'];
 
 /// A header, and then these frames.
 fn trace_of(alloc: Global, frames: &[&[u8]]) -> Result<Vec<u8>, Fail> {
@@ -78,6 +93,37 @@ fn the_first_unknown_id_is_shown(rt: HostRuntime) -> Result<(), Fail> {
     let lines = "trace version 1\nevent \"S\" unresolved stack#4\n\
 event \"M\" unresolved pool#7\nevent \"M\" unresolved pool#8\nend whole\n";
     check_resolved(&rt, rt.alloc(), &bytes, WHOLE, lines);
+    Ok(())
+}
+
+#[test]
+fn unknown_ids_of_the_first_and_the_last_field(rt: HostRuntime) -> Result<(), Fail> {
+    let frames: [&[u8]; 4] = [&IO, &POOLED, &UNKNOWN_FIRST, &UNKNOWN_LAST];
+    let bytes = trace_of(rt.alloc(), &frames)?;
+    let lines = "trace version 1\nevent \"P\" unresolved pool#4294967295\n\
+event \"P\" unresolved stack#4294967295\nend whole\n";
+    check_resolved(&rt, rt.alloc(), &bytes, WHOLE, lines);
+    Ok(())
+}
+
+#[test]
+fn names_are_quoted(rt: HostRuntime) -> Result<(), Fail> {
+    let bytes = trace_of(rt.alloc(), &[&QUOTES, &LINE_FEED])?;
+    let lines = "trace version 1\n\
+event \"\\x22\\x0A\" timestamp_ns=0 \"\\x0A\\x22\"=String:\"\\x0A\"\nend whole\n";
+    check_resolved(&rt, rt.alloc(), &bytes, WHOLE, lines);
+    Ok(())
+}
+
+#[test]
+fn ends_of_resolved_dumps(rt: HostRuntime) -> Result<(), Fail> {
+    check_resolved(&rt, rt.alloc(), &[], NO_HEADER, "no header\n");
+    let stopped = "trace version 1\nend stopped at 19\n";
+    check_resolved(&rt, rt.alloc(), &ONE_EVENT[..25], STOPPED, stopped);
+    let bytes = joined(rt.alloc(), &ONE_EVENT, &OTHER_EV)?;
+    let conflict =
+        "trace version 1\nevent \"Ev\" timestamp_ns=1000 \"v\"=Varint:42\nend conflict at 40 id 256\n";
+    check_resolved(&rt, rt.alloc(), &bytes, CONFLICT, conflict);
     Ok(())
 }
 
@@ -124,6 +170,11 @@ fn texts_of_faults(rt: HostRuntime) -> Result<(), Fail> {
     assert_eq!(rt;
         format!(in rt.alloc(); "{short}")?.as_str(),
         "schema has fewer fields than the event"
+    );
+    let memory = DeserError::OutOfMemory;
+    assert_eq!(rt;
+        format!(in rt.alloc(); "{memory}")?.as_str(),
+        "out of memory"
     );
     Ok(())
 }

@@ -2,10 +2,14 @@
 
 use crate::tests::ample::traces::{check_trace, check_whole_dump};
 use crate::tests::ample::{COUNTS, MILLION, SIZES, text};
-use crate::tests::calls::{all, decoder_of, intern, intern_stack, put_stacks, put_strings};
+use crate::tests::calls::{
+    all, decoder_of, intern, intern_stack, put_one, put_stacks, put_strings,
+};
+use crate::tests::traces::one_field;
 use dial9_trace_format::codec::{PoolEntry, StackPoolEntry};
 use dial9_trace_format::encoder::Encoder;
 use dial9_trace_format::leb128::EncodeError;
+use dial9_trace_format::types::{FieldType, FieldValue};
 use std::alloc::{AllocError, Global};
 use std::process::Abort;
 use std::test::Fail;
@@ -37,6 +41,29 @@ fn texts_and_stacks_of_each_size(rt: HostRuntime) -> Result<(), Fail> {
         check_sized(&rt, rt.alloc(), size)?;
     }
     check_sized(&rt, rt.alloc(), MILLION)
+}
+
+/// What an encoder writes for an event that holds a text and a stack of this size, by their ids.
+fn held(alloc: Global, size: usize) -> Result<Vec<u8>, EncodeError> {
+    let text = text(alloc, size)?;
+    let stack: Vec<u64> = vec![in alloc; 7; size]?;
+    let schema = one_field(alloc, "K", "f", FieldType::DynamicMap)?;
+    let mut encoder = Encoder::new(alloc)?;
+    let key = FieldValue::PooledString(intern(&mut encoder, text.as_str())?);
+    let value = FieldValue::PooledStackFrames(intern_stack(&mut encoder, &stack)?);
+    let mut pairs = Vec::new(alloc);
+    pairs.push((key, value))?;
+    put_one(&mut encoder, &schema, 0, FieldValue::Map(pairs))?;
+    Ok(encoder.finish())
+}
+
+#[test]
+fn held_texts_and_stacks_of_each_size(rt: HostRuntime) -> Result<(), Fail> {
+    for size in SIZES {
+        check_whole_dump(&rt, rt.alloc(), &held(rt.alloc(), size)?);
+    }
+    check_whole_dump(&rt, rt.alloc(), &held(rt.alloc(), MILLION)?);
+    Ok(())
 }
 
 /// Interns the number as a text and as a stack.

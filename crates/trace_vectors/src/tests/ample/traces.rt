@@ -32,9 +32,11 @@ pub fn check_trace(rt: &impl Abort, alloc: Global, bytes: &[u8], count: usize) -
     check_one_by_one(rt, alloc, bytes, &frames)
 }
 
-/// The dump of the trace is whole.
+/// The dump of the trace is whole, as it is and resolved.
 pub fn check_whole_dump(rt: &impl Abort, alloc: Global, bytes: &[u8]) {
-    let mut out = Vec::new(alloc);
-    assert_eq!(rt; dump(alloc, bytes, &mut out, false), WHOLE);
-    assert!(rt; out.as_slice().ends_with(b"\nend whole\n"));
+    for resolve in [false, true] {
+        let mut out = Vec::new(alloc);
+        assert_eq!(rt; dump(alloc, bytes, &mut out, resolve), WHOLE);
+        assert!(rt; out.as_slice().ends_with(b"\nend whole\n"));
+    }
 }
