@@ -17,6 +17,7 @@ mod layouts;
 mod lent;
 mod mixed;
 mod numbers;
+mod odd_traces;
 mod plain;
 mod pools;
 mod reading;

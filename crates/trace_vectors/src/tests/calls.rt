@@ -107,3 +107,10 @@ pub fn all_of(alloc: Global, bytes: &[u8]) -> Result<Vec<DecodedFrame>, Fail> {
     let mut decoder = decoder_of(alloc, bytes)?;
     all(&mut decoder)
 }
+
+/// `Decoder::into_encoder` of a decoder that has read all.
+pub fn resumed(alloc: Global, bytes: &[u8]) -> Result<Encoder, Fail> {
+    let mut decoder = decoder_of(alloc, bytes)?;
+    let _frames = all(&mut decoder)?;
+    Ok(decoder.into_encoder(Vec::new(alloc))?)
+}

@@ -1,6 +1,6 @@
 //! Events of event types.
 
-use crate::tests::calls::{all, decoder_of, put, put_event};
+use crate::tests::calls::{put, put_event, resumed};
 use dial9_trace_format::TraceEvent;
 use dial9_trace_format::encoder::{Encoder, Schema};
 use dial9_trace_format::leb128::EncodeError;
@@ -115,13 +115,6 @@ fn slot_taken(rt: HostRuntime) -> Result<(), Fail> {
         EncodeError::SlotTaken,
     );
     Ok(())
-}
-
-/// An encoder that goes on after all of the bytes.
-fn resumed(alloc: Global, bytes: &[u8]) -> Result<Encoder, Fail> {
-    let mut decoder = decoder_of(alloc, bytes)?;
-    all(&mut decoder)?;
-    Ok(decoder.into_encoder(Vec::new(alloc))?)
 }
 
 #[test]

@@ -1,12 +1,11 @@
 //! Encoders that go on after a reader, and encoders that begin a new trace.
 
-use crate::tests::calls::{all, decoder_of, intern, put_event, register};
+use crate::tests::calls::{intern, put_event, register, resumed};
 use crate::tests::told::{breaking, check_told, stepping};
 use crate::tests::traces::{ONE_EVENT, ev};
 use dial9_trace_format::encoder::Encoder;
 use dial9_trace_format::leb128::{EncodeError, Faults};
 use dial9_trace_format::types::FieldValue;
-use std::alloc::Global;
 use std::io::ErrorKind;
 use std::test::Fail;
 use trace_samples::{Refusal, Told};
@@ -28,13 +27,6 @@ const TWICE: [u8; 28] = [
     0x54, 0x52, 0x43, 0x00, 0x01, 0x03, 0x02, 0x00, 0x00, 0x00, 0x05, 0x00, 0x00, 0x00, 0x01, 0x00,
     0x00, 0x00, 0x78, 0x02, 0x00, 0x00, 0x00, 0x01, 0x00, 0x00, 0x00, 0x78,
 ];
-
-/// `Decoder::into_encoder` of a decoder that has read all.
-fn resumed(alloc: Global, bytes: &[u8]) -> Result<Encoder, Fail> {
-    let mut decoder = decoder_of(alloc, bytes)?;
-    let _frames = all(&mut decoder)?;
-    Ok(decoder.into_encoder(Vec::new(alloc))?)
-}
 
 #[test]
 fn goes_on_with_the_base_time(rt: HostRuntime) -> Result<(), Fail> {
