@@ -1,5 +1,5 @@
 //! The workloads of writing, over the original. `library/bench_w` has the same over the library.
-use crate::polls::{NamePoll, Poll, SlotPoll};
+use crate::polls::{NamePoll, SlotPoll};
 use dial9_trace_format::encoder::{Encoder, Schema};
 use dial9_trace_format::schema::FieldDef;
 use dial9_trace_format::types::{FieldType as T, FieldValue as V, InternedStackFrames, InternedString, StackFrames};
@@ -27,6 +27,16 @@ fn varint3(count: u64) -> Vec<u8> {
     }
     e.finish()
 }
+// What an encoder has written after so many events of the same values.
+#[inline(always)]
+fn repeated(mut e: Encoder, s: &Schema, values: &[V], count: u64) -> Vec<u8> {
+    let mut time = 0;
+    for i in 0..count {
+        time = step(time, i);
+        e.write_event(s, time, values).unwrap();
+    }
+    e.finish()
+}
 fn stacks(count: u64) -> Vec<u8> {
     let mut e = Encoder::new();
     let s = define(&mut e, "Sample", &[("stack", T::StackFrames), ("text", T::String)]);
@@ -34,12 +44,7 @@ fn stacks(count: u64) -> Vec<u8> {
         V::StackFrames(StackFrames((0..32u64).map(|i| 0x7f00_0000_1000 + i * 4093).collect())),
         V::string("some::module::task_number"),
     ];
-    let mut time = 0;
-    for i in 0..count {
-        time = step(time, i);
-        e.write_event(&s, time, &values).unwrap();
-    }
-    e.finish()
+    repeated(e, &s, &values, count)
 }
 fn nested(count: u64) -> Vec<u8> {
     let mut e = Encoder::new();
@@ -52,12 +57,7 @@ fn nested(count: u64) -> Vec<u8> {
             (V::string("third"), V::Bool(true)),
         ]),
     ];
-    let mut time = 0;
-    for i in 0..count {
-        time = step(time, i);
-        e.write_event(&s, time, &values).unwrap();
-    }
-    e.finish()
+    repeated(e, &s, &values, count)
 }
 fn names(count: u64) -> Vec<String> {
     (0..count).map(|i| format!("module::task::{}", 10_000_000_000 + i)).collect()
@@ -87,12 +87,7 @@ fn fixed(count: u64) -> Vec<u8> {
     let mut e = Encoder::new();
     let s = define(&mut e, "Fixed", &[("a", T::I64), ("b", T::F64), ("c", T::Bool), ("d", T::PooledString), ("e", T::Bytes)]);
     let values = [V::I64(-5), V::F64(1.0), V::Bool(true), V::PooledString(InternedString::from_raw(77)), V::Bytes(b"0123456789abcdef".to_vec())];
-    let mut time = 0;
-    for i in 0..count {
-        time = step(time, i);
-        e.write_event(&s, time, &values).unwrap();
-    }
-    e.finish()
+    repeated(e, &s, &values, count)
 }
 fn known_texts(count: u64) -> Vec<u8> {
     let mut e = Encoder::new();
@@ -151,7 +146,7 @@ fn slot_polls(count: u64) -> Vec<u8> {
     let mut time = 0;
     for i in 0..count {
         time = step(time, i);
-        e.write(&SlotPoll(Poll::new(time, i))).unwrap();
+        e.write(&SlotPoll::new(time, i)).unwrap();
     }
     e.finish()
 }
@@ -160,7 +155,7 @@ fn name_polls(count: u64) -> Vec<u8> {
     let mut time = 0;
     for i in 0..count {
         time = step(time, i);
-        e.write(&NamePoll(Poll::new(time, i))).unwrap();
+        e.write(&NamePoll::new(time, i)).unwrap();
     }
     e.finish()
 }

@@ -2,3 +2,4 @@ pub mod Silence
 pub mod Marks
 pub mod Tallies
 pub mod Beats
+pub mod Torn

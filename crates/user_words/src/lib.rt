@@ -8,3 +8,4 @@ pub mod laws;
 pub mod marks;
 pub mod silent;
 pub mod tally;
+pub mod torn;

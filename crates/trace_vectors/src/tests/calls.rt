@@ -3,12 +3,32 @@
 use dial9_trace_format::TraceEvent;
 use dial9_trace_format::codec::{PoolEntry, StackPoolEntry, WireTypeId};
 use dial9_trace_format::decoder::{DecodedFrame, Decoder};
-use dial9_trace_format::encoder::{Call, Encoder, Reply, Schema, run_calls};
+use dial9_trace_format::encoder::{Call, Encoder, RawEncoder, Reply, Schema, run_calls};
 use dial9_trace_format::leb128::EncodeError;
 use dial9_trace_format::schema::FieldDef;
 use dial9_trace_format::types::{FieldValue, InternedStackFrames, InternedString};
 use std::alloc::{AllocError, Global};
 use std::test::Fail;
+
+/// `Encoder::new`.
+pub fn fresh(alloc: Global) -> Result<Encoder, EncodeError> {
+    Encoder::new(alloc)
+}
+
+/// `Encoder::reset_to`, of a new vector.
+pub fn reset(alloc: Global, encoder: &mut Encoder) -> Result<Vec<u8>, EncodeError> {
+    encoder.reset_to(Vec::new(alloc))
+}
+
+/// `Encoder::into_raw_encoder`.
+pub fn into_raw(encoder: Encoder) -> RawEncoder {
+    encoder.into_raw_encoder()
+}
+
+/// `RawEncoder::write_raw`.
+pub fn put_raw(encoder: &mut RawEncoder, bytes: &[u8]) -> Result<(), EncodeError> {
+    encoder.write_raw(bytes)
+}
 
 /// `Encoder::intern_string`.
 pub fn intern(encoder: &mut Encoder, text: &str) -> Result<InternedString, EncodeError> {
@@ -108,9 +128,14 @@ pub fn all_of(alloc: Global, bytes: &[u8]) -> Result<Vec<DecodedFrame>, Fail> {
     all(&mut decoder)
 }
 
-/// `Decoder::into_encoder` of a decoder that has read all.
+/// `Decoder::into_encoder`, over a new vector.
+pub fn into_encoder(alloc: Global, decoder: Decoder<'_>) -> Result<Encoder, EncodeError> {
+    decoder.into_encoder(Vec::new(alloc))
+}
+
+/// The same of a decoder that has read all.
 pub fn resumed(alloc: Global, bytes: &[u8]) -> Result<Encoder, Fail> {
     let mut decoder = decoder_of(alloc, bytes)?;
     let _frames = all(&mut decoder)?;
-    Ok(decoder.into_encoder(Vec::new(alloc))?)
+    Ok(into_encoder(alloc, decoder)?)
 }

@@ -69,7 +69,7 @@ fn copied_entry(rt: HostRuntime) -> Result<(), Fail> {
 fn copied_text_of_a_pool(rt: HostRuntime) -> Result<(), Fail> {
     let entry = PoolEntry {
         pool_id: 5,
-        bytes: b"x".to_vec(rt.alloc())?,
+        bytes: Vec::from_slice(rt.alloc(), b"x")?,
     };
     let copy = entry.clone(rt.alloc())?;
     assert_eq!(rt; copy.pool_id, 5);

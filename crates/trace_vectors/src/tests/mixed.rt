@@ -10,7 +10,7 @@ use std::process::Abort;
 use std::test::Fail;
 
 /// The next event that the decoder's iterator of events gives, if it gives one, ends here.
-fn check_event_to(rt: &impl Abort, decoder: &mut Decoder<'_>, position: usize) {
+pub fn check_event_to(rt: &impl Abort, decoder: &mut Decoder<'_>, position: usize) {
     assert!(rt; matches!(decoder.events().next(), Some(Ok(_))));
     assert_eq!(rt; Decoder::position(decoder), position);
 }
@@ -32,7 +32,7 @@ fn check_no_more(rt: &impl Abort, decoder: &mut Decoder<'_>, kind: DecodeErrorKi
 }
 
 /// A sink refuses the next event.
-fn check_refused(rt: &impl Abort, decoder: &mut Decoder<'_>) {
+pub fn check_refused(rt: &impl Abort, decoder: &mut Decoder<'_>) {
     let mut sink = Adding { left: 0, total: 0 };
     let refused: Result<(), TryForEachError<Unwanted>> = decoder.try_for_each_event(&mut sink);
     assert!(rt; matches!(refused, Err(TryForEachError::User(Unwanted))));

@@ -3,7 +3,8 @@
 
 use crate::tests::annotations::annotated;
 use crate::tests::calls::{
-    all, all_of, decoder_of, intern, intern_stack, put, put_event, put_one, register, resumed,
+    all, all_of, decoder_of, fresh, intern, intern_stack, into_encoder, into_raw, put, put_event,
+    put_one, put_raw, register, reset, resumed,
 };
 use crate::tests::checks::check_registered;
 use crate::tests::traces::{EV_SCHEMA, HEADER, ONE_EVENT, OTHER_EV, ev, joined, one_field};
@@ -173,7 +174,7 @@ fn no_encoder_goes_on_after_a_conflict(rt: HostRuntime) -> Result<(), Fail> {
     let mut decoder = decoder_of(rt.alloc(), &bytes)?;
     assert_eq!(rt; all(&mut decoder)?.len(), 2);
     assert!(rt; decoder.next_frame().is_err());
-    let refused = decoder.into_encoder(Vec::new(rt.alloc())).err();
+    let refused = into_encoder(rt.alloc(), decoder).err();
     assert_eq!(rt; refused, Some(EncodeError::Failed));
     Ok(())
 }
@@ -185,7 +186,7 @@ fn gone_on(alloc: Global, bytes: &[u8]) -> Result<Vec<u8>, Fail> {
     let (front, _) = bytes
         .split_at_checked(decoder.position())
         .ok_or("no place")?;
-    let mut encoder = decoder.into_encoder(Vec::new(alloc))?;
+    let mut encoder = into_encoder(alloc, decoder)?;
     put_one(&mut encoder, &ev(alloc)?, 2_000, FieldValue::Varint(2))?;
     Ok(joined(alloc, front, &encoder.finish())?)
 }
@@ -213,9 +214,9 @@ const AT_2000: [u8; 21] = [
 #[test]
 fn a_new_trace_of_one_encoder(rt: HostRuntime) -> Result<(), Fail> {
     let schema = ev(rt.alloc())?;
-    let mut encoder = Encoder::new(rt.alloc())?;
+    let mut encoder = fresh(rt.alloc())?;
     put_one(&mut encoder, &schema, 1_000, FieldValue::Varint(42))?;
-    let before = encoder.reset_to(Vec::new(rt.alloc()))?;
+    let before = reset(rt.alloc(), &mut encoder)?;
     assert_eq!(rt; before.as_slice(), ONE_EVENT.as_slice());
     assert_eq!(rt; encoder.bytes_written(), 5);
     put_one(&mut encoder, &schema, 2_000, FieldValue::Varint(2))?;
@@ -227,10 +228,10 @@ fn a_new_trace_of_one_encoder(rt: HostRuntime) -> Result<(), Fail> {
 
 #[test]
 fn raw_bytes_after_a_header(rt: HostRuntime) -> Result<(), Fail> {
-    let encoder: Encoder = Encoder::new(rt.alloc())?;
-    let mut raw = encoder.into_raw_encoder();
+    let encoder: Encoder = fresh(rt.alloc())?;
+    let mut raw = into_raw(encoder);
     assert_eq!(rt; raw.bytes_written(), 5);
-    raw.write_raw(&ONE_EVENT)?;
+    put_raw(&mut raw, &ONE_EVENT)?;
     assert_eq!(rt; raw.bytes_written(), 31);
     let bytes = raw.into_inner();
     let mut decoder = decoder_of(rt.alloc(), &bytes)?;

@@ -106,7 +106,7 @@ fn check_stacks_of(
 fn put_text(alloc: Global, encoder: &mut Encoder, id: u32, text: &[u8]) -> Result<(), Fail> {
     let entry = PoolEntry {
         pool_id: id,
-        bytes: text.to_vec(alloc)?,
+        bytes: Vec::from_slice(alloc, text)?,
     };
     put_strings(encoder, &[entry])?;
     Ok(())

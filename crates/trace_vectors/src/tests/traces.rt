@@ -28,7 +28,7 @@ pub const OTHER_EV: [u8; 14] = [
 
 /// The bytes of the first, and then those of the second.
 pub fn joined(alloc: Global, first: &[u8], second: &[u8]) -> Result<Vec<u8>, AllocError> {
-    let mut bytes = first.to_vec(alloc)?;
+    let mut bytes = Vec::from_slice(alloc, first)?;
     bytes.extend_from_slice(second)?;
     Ok(bytes)
 }
@@ -39,9 +39,8 @@ pub fn one_definition(
     field: &str,
     field_type: FieldType,
 ) -> Result<Vec<FieldDef>, AllocError> {
-    let mut fields = Vec::new(alloc);
-    fields.push(FieldDef::new(alloc, field, field_type)?)?;
-    Ok(fields)
+    let definition = FieldDef::new(alloc, field, field_type)?;
+    Ok(vec![in alloc; definition]?)
 }
 
 /// A schema of this name with one field.

@@ -101,7 +101,7 @@ fn intern_stack(encoder: &mut Encoder<Told>) -> Result<(), EncodeError> {
 fn write_string_pool(alloc: Global, encoder: &mut Encoder<Told>) -> Result<(), EncodeError> {
     let entry = PoolEntry {
         pool_id: 7,
-        bytes: b"b".to_vec(alloc)?,
+        bytes: Vec::from_slice(alloc, b"b")?,
     };
     encoder.write_string_pool(&[entry])
 }

@@ -1,8 +1,9 @@
 //! Events of event types: of values of each size, many of one type, and many of several types in turn.
 
+use crate::tests::ample::borrowed::{check_at_once, check_events};
 use crate::tests::ample::traces::{check_trace, check_whole_dump};
 use crate::tests::ample::{COUNTS, MILLION, SIZES, spelled_length, text, value};
-use crate::tests::calls::{intern, put};
+use crate::tests::calls::{all_of, intern, put};
 use dial9_trace_format::TraceEvent;
 use dial9_trace_format::encoder::Encoder;
 use dial9_trace_format::leb128::EncodeError;
@@ -330,4 +331,12 @@ fn many_events_of_types_in_turn(rt: HostRuntime) -> Result<(), Fail> {
         check_whole_dump(&rt, rt.alloc(), &bytes);
     }
     Ok(())
+}
+
+#[test]
+fn a_hundred_thousand_frames(rt: HostRuntime) -> Result<(), Fail> {
+    let bytes = events(rt.alloc(), &FastSlot { time: 0 }, 99_999)?;
+    assert_eq!(rt; all_of(rt.alloc(), &bytes)?.len(), 100_000);
+    check_at_once(&rt, rt.alloc(), &bytes, 100_000)?;
+    check_events(&rt, rt.alloc(), &bytes)
 }

@@ -1,5 +1,6 @@
-//! Reading what was written, at once and frame by frame, copying it, and its dump.
+//! Reading what was written, at once and frame by frame, by both readers, copying it, and its dump.
 
+use crate::tests::ample::borrowed::check_borrowed;
 use crate::tests::calls::{all, decoder_of, next};
 use dial9_trace_format::decoder::DecodedFrame;
 use std::alloc::Global;
@@ -23,13 +24,14 @@ fn check_one_by_one(
     Ok(())
 }
 
-/// The trace is read whole as so many frames.
+/// The trace is read whole as so many frames, also borrowed ones.
 pub fn check_trace(rt: &impl Abort, alloc: Global, bytes: &[u8], count: usize) -> Result<(), Fail> {
     let mut decoder = decoder_of(alloc, bytes)?;
     let frames = all(&mut decoder)?;
     assert_eq!(rt; decoder.position(), bytes.len());
     assert_eq!(rt; frames.len(), count);
-    check_one_by_one(rt, alloc, bytes, &frames)
+    check_one_by_one(rt, alloc, bytes, &frames)?;
+    check_borrowed(rt, alloc, bytes, &frames)
 }
 
 /// The dump of the trace is whole, as it is and resolved.

@@ -1,0 +1,67 @@
+//! Layouts of fields of each count: of fixed width, of open width, and both in turn.
+
+use crate::tests::ample::COUNTS;
+use crate::tests::ample::traces::{check_trace, check_whole_dump};
+use crate::tests::calls::{put_event, register_new};
+use dial9_trace_format::codec::compile;
+use dial9_trace_format::encoder::Encoder;
+use dial9_trace_format::leb128::EncodeError;
+use dial9_trace_format::schema::FieldDef;
+use dial9_trace_format::types::{FieldType, FieldValue};
+use std::alloc::{AllocError, Global};
+use std::process::Abort;
+use std::test::Fail;
+
+/// So many fields of the two types in turn.
+fn fields_in_turn(
+    alloc: Global,
+    count: usize,
+    first: FieldType,
+    second: FieldType,
+) -> Result<Vec<FieldDef>, AllocError> {
+    let mut fields = Vec::new(alloc);
+    for place in 0..count {
+        let field_type = if place % 2 == 0 { first } else { second };
+        fields.push(FieldDef::new(alloc, "", field_type)?)?;
+    }
+    Ok(fields)
+}
+
+/// What an encoder writes for an event at 0 with 7 in each field.
+fn event(alloc: Global, fields: Vec<FieldDef>) -> Result<Vec<u8>, EncodeError> {
+    let mut values = Vec::new(alloc);
+    for _ in fields.iter() {
+        values.push(FieldValue::Varint(7))?;
+    }
+    let mut encoder = Encoder::new(alloc)?;
+    let schema = register_new(&mut encoder, "F", fields)?;
+    put_event(&mut encoder, &schema, 0, &values)?;
+    Ok(encoder.finish())
+}
+
+/// Fields of these types in turn have so many steps, and a schema of them is registered, read and dumped, with an event.
+fn check_layout(
+    rt: &impl Abort,
+    alloc: Global,
+    count: usize,
+    types: (FieldType, FieldType),
+    steps: usize,
+) -> Result<(), Fail> {
+    let fields = fields_in_turn(alloc, count, types.0, types.1)?;
+    let layout = compile(alloc, &fields)?;
+    assert_eq!(rt; layout.steps().len(), steps);
+    let bytes = event(alloc, fields)?;
+    check_whole_dump(rt, alloc, &bytes);
+    check_trace(rt, alloc, &bytes, 2)
+}
+
+#[test]
+fn layouts_of_each_count(rt: HostRuntime) -> Result<(), Fail> {
+    let (fixed, open) = (FieldType::U32, FieldType::Varint);
+    for count in COUNTS {
+        check_layout(&rt, rt.alloc(), count, (fixed, FieldType::U8), count.min(1))?;
+        check_layout(&rt, rt.alloc(), count, (fixed, open), count)?;
+        check_layout(&rt, rt.alloc(), count, (open, open), count)?;
+    }
+    Ok(())
+}

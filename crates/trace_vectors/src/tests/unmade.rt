@@ -1,0 +1,107 @@
+//! Events of a type that is known: no schema is made for them.
+
+use crate::tests::calls::put;
+use dial9_trace_format::encoder::Encoder;
+use dial9_trace_format::leb128::EncodeError;
+use dial9_trace_format::schema::{FieldDef, SchemaEntry};
+use dial9_trace_format::types::EventEncoder;
+use dial9_trace_format::{STATIC_WIRE_ID_LIMIT, TraceEvent};
+use std::alloc::{AllocError, Global};
+use std::process::Abort;
+use std::test::Fail;
+use trace_samples::events::{Annotated, ByName, FastSlot, Nameless};
+
+/// An event of another type, of which no schema can be made.
+#[derive(Drop)]
+struct Unmade<T: Drop>(T);
+
+impl<T: TraceEvent + Drop> TraceEvent for Unmade<T> {
+    ghost slot = { T.slot };
+
+    ghost entry = { T.entry };
+
+    ghost time = { λ e. T.time e.0 };
+
+    ghost values = { λ e. T.values e.0 };
+
+    ghost one_each = { λ e. T.one_each e.0 };
+
+    fn type_slot() -> u16 {
+        T::type_slot()
+    }
+
+    fn event_name() -> &'static str {
+        T::event_name()
+    }
+
+    fn field_defs(_alloc: Global) -> Result<Vec<FieldDef>, AllocError> {
+        Err(AllocError)
+    }
+
+    fn schema_entry(_alloc: Global) -> Result<SchemaEntry, AllocError> {
+        Err(AllocError)
+    }
+
+    fn is_entry(other: &SchemaEntry) -> bool {
+        T::is_entry(other)
+    }
+
+    fn timestamp(&self) -> u64 {
+        self.0.timestamp()
+    }
+
+    fn encode_fields(&self, enc: &mut EventEncoder<'_>) -> Result<(), EncodeError> {
+        self.0.encode_fields(enc)
+    }
+}
+
+/// Before the type is known the event is refused, and nothing is written; after it two such events are written.
+fn check_known<T: TraceEvent + Drop>(
+    rt: &impl Abort,
+    alloc: Global,
+    event: &T,
+    unmade: &Unmade<T>,
+    length: u64,
+) -> Result<(), Fail> {
+    let mut encoder = Encoder::new(alloc)?;
+    let refused = put(&mut encoder, unmade);
+    assert!(rt; refused == Err(EncodeError::OutOfMemory));
+    assert_eq!(rt; encoder.bytes_written(), 5);
+    put(&mut encoder, event)?;
+    let before = encoder.bytes_written();
+    put(&mut encoder, unmade)?;
+    put(&mut encoder, unmade)?;
+    assert_eq!(rt; encoder.bytes_written().saturating_sub(before), length);
+    Ok(())
+}
+
+#[test]
+fn no_schema_of_a_known_slot(rt: HostRuntime) -> Result<(), Fail> {
+    let alloc = rt.alloc();
+    let fast = FastSlot { time: 1 };
+    check_known(&rt, alloc, &fast, &Unmade(FastSlot { time: 1 }), 12)?;
+    let load = Annotated { time: 1, load: 2 };
+    let unmade = Unmade(Annotated { time: 1, load: 2 });
+    check_known(&rt, alloc, &load, &unmade, 14)
+}
+
+#[test]
+fn no_schema_of_a_known_name(rt: HostRuntime) -> Result<(), Fail> {
+    let alloc = rt.alloc();
+    let other = ByName { time: 1 };
+    check_known(&rt, alloc, &other, &Unmade(ByName { time: 1 }), 12)?;
+    let flag = Nameless {
+        time: 1,
+        flag: true,
+    };
+    let unmade = Unmade(Nameless {
+        time: 1,
+        flag: true,
+    });
+    check_known(&rt, alloc, &flag, &unmade, 14)
+}
+
+#[test]
+fn slots_below_256(rt: HostRuntime) {
+    assert_eq!(rt; STATIC_WIRE_ID_LIMIT, 256);
+}
