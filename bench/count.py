@@ -23,9 +23,11 @@ def instructions(*args):
 
 
 def write(who, work):
-    count = {"register1000": 1, "new-texts": 4096}.get(work, EVENTS)
+    count = {"register1000": 1, "new-texts": 4096, "texts-made": 4096}.get(work, EVENTS)
     operations = count * 1000 if work == "register1000" else count
-    return (instructions("write", who, work, 2 * count) - instructions("write", who, work, count)) / operations
+    found = (instructions("write", who, work, 2 * count) - instructions("write", who, work, count)) / operations
+    # (the making of the texts is no part of interning them)
+    return found - write(who, "texts-made") if work == "new-texts" else found
 
 
 def decode(who, work, form):
