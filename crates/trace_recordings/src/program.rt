@@ -4,7 +4,7 @@ ghost use Rattle.std.specs.Prelude.{◌≡◌, ◌≤◌, IfOk, string_bytes};
 ghost use Rattle.std.specs.Process.{exit_status};
 ghost use Rattle.trace_recordings.specs.Program.{AsksFor, Answers, status_with};
 
-use crate::findings::{Outcome, findings_of};
+use crate::findings::{Findings, Outcome, findings_of};
 use crate::player::{PlayError, Played, play};
 use crate::recording::recordings_of;
 use crate::tally::Tally;
@@ -120,15 +120,20 @@ fn replay_set(rt: &(impl AllocGlobal + Files + Print), set: &str) -> anyhow::Res
     let mut tally = Tally::new(alloc);
     for recording in &recordings {
         let findings = findings_of(alloc, *recording)?;
-        print_differences(rt, set, recording.name, &findings.script)?;
-        print_differences(rt, set, recording.name, &findings.dump)?;
-        print_differences(rt, set, recording.name, &findings.borrowed)?;
-        print_differences(rt, set, recording.name, &findings.resolved)?;
-        print_differences(rt, set, recording.name, &findings.sink)?;
+        print_findings(rt, set, recording.name, &findings)?;
         tally.add(&findings)?;
     }
     println!(rt; "{set}: {tally}")?;
     Ok(tally.differs())
+}
+
+// Prints each difference in a recording.
+fn print_findings(rt: &impl Print, set: &str, name: &str, findings: &Findings) -> io::Result<()> {
+    print_differences(rt, set, name, &findings.script)?;
+    print_differences(rt, set, name, &findings.dump)?;
+    print_differences(rt, set, name, &findings.borrowed)?;
+    print_differences(rt, set, name, &findings.resolved)?;
+    print_differences(rt, set, name, &findings.sink)
 }
 
 // Prints each difference in a part of a recording.
