@@ -1,4 +1,4 @@
-//! Entries of pools, and annotations, as they stand in a line.
+//! Entries of pools, and annotations, as they stand in a line. Each function answers `AllocError` where a growth was refused.
 
 ghost use Rattle.std.specs.Prelude.{◌≡◌, ◌++◌, OnOk, codes, string_bytes};
 ghost use Rattle.trace_wire.specs.PoolEntries.{string_entry_of, stack_entry_of};

@@ -1,4 +1,4 @@
-//! Names, texts and addresses as they stand in a line.
+//! Names, texts and addresses as they stand in a line. Functions that append answer `AllocError` where a growth was refused.
 
 ghost use Rattle.std.specs.Prelude.{◌≡◌, ◌++◌, OnOk, codes, string_bytes};
 ghost use Rattle.std.specs.List.{join_by};

@@ -1,4 +1,4 @@
-//! Values as they stand in a line.
+//! Values as they stand in a line. Each function answers `AllocError` where a growth was refused.
 
 ghost use Rattle.std.specs.Prelude.{◌≡◌, ◌++◌, OnOk, codes, string_bytes, map};
 ghost use Rattle.std.specs.List.{join_by};

@@ -1,4 +1,4 @@
--- The sample of a place, and the values of an event.
+-- The sample of an index, and the values of an event.
 use Rattle.std.proofs.Common.{◌≡◌, ℕ, ◌+◌, ◌<◌, ◌≤◌, nat_lt, Bool, true, false, cond, Some, None, List, [], ◌∷◌, length, get_or, drop, refl, ap, sym, ◌∙◌, arith}
 use Rattle.std.specs.List.{position, position_or_len}
 use Rattle.std.proofs.lemmas.Bool.{ltb-true}
@@ -12,14 +12,14 @@ place_found : (b : Bool) (n i : ℕ) → Some i ≡ cond b (Some n) None → (b 
 place_found true n i h = (refl, cc)
 place_found false n i h = absurd (cc)
 
--- what stands at the first place that passes, passes
+-- what stands at the first index that passes, passes
 pub passes_there : {A : Type 0} (p : A → Bool) (xs : List A) (i : ℕ) (d : A) → Some i ≡ position p xs → p (get_or xs i d) ≡ true
 passes_there p xs i d place =
     let found = place_found (nat_lt (position_or_len p xs) (length xs)) (position_or_len p xs) i place in
     let inside : position_or_len p xs < length xs = ltb-true (position_or_len p xs) (length xs) found.0 in
     rw found.1 (passes_at_first p xs d inside)
 
--- the value of a place, and those after it; there are at least so many
+-- the value of an index, and those after it; there are at least so many
 pub value_more : (xs : List FieldValue) (size : ℕ) → size ≤ length xs → (i : ℕ) → nat_lt i size ≡ true → (x : FieldValue) (v : Value) (later : List Value) → x ≡ get_or xs i x → v ≡ view x → later ≡ views (drop (i + 1) xs) → v ∷ later ≡ views (drop i xs)
 value_more xs size enough i below x v later is holds others =
     let low : i < size = ltb-true i size below in

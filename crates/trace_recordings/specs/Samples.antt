@@ -59,7 +59,7 @@ samples = FastSlot ∷ Poll ∷ Texts ∷ Stacks ∷ Annotated ∷ LastSlot ∷ 
 abbrev pub is_sample : ℕ → Entry → Sample → Bool
 is_sample slot entry sample = (slot == slot_of sample) && same_entry entry (entry_in sample)
 
--- the place of the first that has them
+-- the index of the first that has them
 abbrev pub place_of : ℕ → Entry → Option ℕ
 place_of slot entry = position (is_sample slot entry) samples
 

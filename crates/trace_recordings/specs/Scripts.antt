@@ -66,7 +66,7 @@ Says Resume line = line ≡ codes "resume"
 Says (Raw bytes) line = (digits : List ℕ) × (line ≡ codes "raw " ++ digits) × AreDigitsOf bytes.items digits
 Says Bare line = line ≡ codes "bare"
 
--- each line says the call of its place
+-- each line says the call of the same index
 abbrev pub SayEach : List (List ℕ) → List Call → Type 0
 SayEach [] [] = Unit {0}
 SayEach [] (call ∷ calls) = ⊥

@@ -111,7 +111,7 @@ fn leave_out(left_out: &mut Vec<LeftOut>, name: &'static str) -> Result<(), Allo
     Ok(())
 }
 
-// The first place of a name.
+// The first index of a name.
 fn place_of(left_out: &[LeftOut], name: &str) -> Option<usize>
     ensures { result ≡ position (is_named name.now) left_out.now }
 {

@@ -98,7 +98,7 @@ pub fn sample_in(slot: u64, entry: &SchemaEntry) -> Option<Sample>
     Some(SAMPLES[place])
 }
 
-// The place among the samples of the one that has this slot and this schema.
+// The index among the samples of the one that has this slot and this schema.
 fn place_in(slot: u64, entry: &SchemaEntry) -> Option<usize>
     ensures { result ≡ place_of slot entry.now }
 {

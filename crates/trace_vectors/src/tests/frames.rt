@@ -104,7 +104,7 @@ fn each_kind_one_by_one(rt: HostRuntime) -> Result<(), Fail> {
     Ok(())
 }
 
-/// The frame equals the one in this place, and no other.
+/// The frame equals the one of this index, and no other.
 fn check_equal_alone(rt: &impl Abort, frame: &DecodedFrame, place: usize, frames: &[DecodedFrame]) {
     for (i, other) in frames.iter().enumerate() {
         assert_eq!(rt; *frame == *other, i == place);

@@ -41,7 +41,7 @@ const RUNS: [[Fixed; 3]; 8] = [
     [STACK, BOOL, U8],
 ];
 
-/// The place of the event behind the schema of three such fields and one more.
+/// The place of the event after the schema of three such fields and one more.
 const START: usize = 30;
 
 /// Header, schema of three such fields and one of the tag `last`, and an event at 0 with the bytes `value` in its last field.
@@ -84,7 +84,7 @@ fn check_cut(
 }
 
 /// The event is cut after each byte of its part of this place and width, if any stands, and a sink is told this of the part.
-/// Answers the place behind the part.
+/// Answers the place after the part.
 fn check_part(
     rt: &impl Abort,
     alloc: Global,
@@ -103,7 +103,7 @@ fn check_part(
     Ok(place.saturating_add(width))
 }
 
-/// The event is cut in its head and in its first three fields. Answers the place behind them.
+/// The event is cut in its head and in its first three fields. Answers the place after them.
 fn check_run(rt: &impl Abort, alloc: Global, bytes: &[u8], run: &[Fixed]) -> Result<usize, Fail> {
     let delta = check_part(rt, alloc, bytes, START, 3, DecodeErrorKind::TruncatedEvent)?;
     let mut place = check_part(rt, alloc, bytes, delta, 3, DecodeErrorKind::TruncatedDelta)?;
@@ -152,7 +152,7 @@ fn runs_before_a_number(rt: HostRuntime) -> Result<(), Fail> {
     Ok(())
 }
 
-/// The last field may be absent, and is a number of two bytes behind the byte of presence.
+/// The last field may be absent, and is a number of two bytes after the byte of presence.
 #[test]
 fn runs_before_an_optional_field(rt: HostRuntime) -> Result<(), Fail> {
     for run in RUNS {

@@ -66,7 +66,7 @@ fn check_fault(
     Ok(())
 }
 
-/// Behind the schema `S` this fault comes, and the position is 18.
+/// After the schema `S` this fault comes, and the position is 18.
 fn check_behind_schema(
     rt: &impl Abort,
     alloc: Global,
