@@ -1,5 +1,6 @@
 -- The schemas of the sample event types.
 use Rattle.std.specs.Prelude.{ℕ, List, [], ◌∷◌, codes}
+use Rattle.std.specs.Borrow.{Bor}
 use Rattle.trace_values.specs.declared.types.field_type.FieldType.{FieldType}
 use Rattle.trace_values.specs.declared.types.field_type.FieldType.TheVariants as types
 use Rattle.trace_wire.specs.Schemas.{Field, Annotation, Entry}
@@ -7,6 +8,10 @@ use Rattle.trace_wire.specs.Schemas.{Field, Annotation, Entry}
 -- a field of this name and type
 abbrev pub field : List ℕ → FieldType → Field
 field name kind = record { name = name; kind = kind }
+
+-- a field, of its name and its type
+abbrev pub defined : Bor (List ℕ) × FieldType → Field
+defined pair = field pair.0.now pair.1
 
 -- a key and a value for the field of this index
 abbrev pub note : ℕ → List ℕ → List ℕ → Annotation

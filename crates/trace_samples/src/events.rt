@@ -1,6 +1,7 @@
 //! Sample event types: of each kind of slot, and with fields of each type.
 
 mod borrowed;
+mod definitions;
 mod fields;
 mod lists;
 mod names;

@@ -7,6 +7,7 @@ ghost use Rattle.trace_values.specs.TraceFields.{value_of_option};
 ghost use Rattle.trace_wire.specs.Schemas.{same_entry, same_field};
 ghost use Rattle.trace_samples.specs.EventEntries.{borrowed};
 
+use crate::events::definitions::definitions;
 use std::alloc::{AllocError, Global};
 use trace_values::leb128::EncodeError;
 use trace_values::types::{BytesField, EventEncoder, FieldType, StrField, TraceField};
@@ -51,12 +52,15 @@ impl<'a> TraceEvent for Borrowed<'a> {
     fn field_defs(alloc: Global) -> Result<Vec<FieldDef>, AllocError>
         ensures { IfOk result (λ fields. fields.items ≡ borrowed.fields) }
     {
-        let mut fields = Vec::new(alloc);
-        fields.push(FieldDef::new(alloc, "path", FieldType::String)?)?;
-        fields.push(FieldDef::new(alloc, "body", FieldType::Bytes)?)?;
-        fields.push(FieldDef::new(alloc, "note", FieldType::OptionalString)?)?;
-        fields.push(FieldDef::new(alloc, "rest", FieldType::OptionalBytes)?)?;
-        Ok(fields)
+        definitions(
+            alloc,
+            &[
+                ("path", FieldType::String),
+                ("body", FieldType::Bytes),
+                ("note", FieldType::OptionalString),
+                ("rest", FieldType::OptionalBytes),
+            ],
+        )
     }
 
     fn schema_entry(alloc: Global) -> Result<SchemaEntry, AllocError>

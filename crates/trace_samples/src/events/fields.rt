@@ -7,6 +7,7 @@ ghost use Rattle.trace_values.specs.TraceFields.{string_pairs};
 ghost use Rattle.trace_wire.specs.Schemas.{same_field};
 ghost use Rattle.trace_samples.specs.EventEntries.{stacks, texts_entry};
 
+use crate::events::definitions::definitions;
 use std::alloc::{AllocError, Global};
 use trace_values::leb128::EncodeError;
 use trace_values::types::{EventEncoder, FieldType, InternedStackFrames, StackFrames, TraceField};
@@ -43,11 +44,14 @@ impl TraceEvent for Texts {
     }
 
     fn field_defs(alloc: Global) -> Result<Vec<FieldDef>, AllocError> {
-        let mut fields = Vec::new(alloc);
-        fields.push(FieldDef::new(alloc, "text", FieldType::String)?)?;
-        fields.push(FieldDef::new(alloc, "blob", FieldType::Bytes)?)?;
-        fields.push(FieldDef::new(alloc, "pairs", FieldType::StringMap)?)?;
-        Ok(fields)
+        definitions(
+            alloc,
+            &[
+                ("text", FieldType::String),
+                ("blob", FieldType::Bytes),
+                ("pairs", FieldType::StringMap),
+            ],
+        )
     }
 
     fn schema_entry(alloc: Global) -> Result<SchemaEntry, AllocError> {
@@ -112,10 +116,13 @@ impl TraceEvent for Stacks {
     }
 
     fn field_defs(alloc: Global) -> Result<Vec<FieldDef>, AllocError> {
-        let mut fields = Vec::new(alloc);
-        fields.push(FieldDef::new(alloc, "frames", FieldType::StackFrames)?)?;
-        fields.push(FieldDef::new(alloc, "stack", FieldType::PooledStackFrames)?)?;
-        Ok(fields)
+        definitions(
+            alloc,
+            &[
+                ("frames", FieldType::StackFrames),
+                ("stack", FieldType::PooledStackFrames),
+            ],
+        )
     }
 
     fn schema_entry(alloc: Global) -> Result<SchemaEntry, AllocError> {

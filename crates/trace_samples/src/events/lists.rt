@@ -6,6 +6,7 @@ ghost use Rattle.trace_values.specs.View.{view};
 ghost use Rattle.trace_wire.specs.Schemas.{same_field};
 ghost use Rattle.trace_samples.specs.EventEntries.{dynamic};
 
+use crate::events::definitions::definitions;
 use std::alloc::{AllocError, Global};
 use trace_values::leb128::EncodeError;
 use trace_values::types::{EventEncoder, FieldType, FieldValue};
@@ -41,10 +42,13 @@ impl TraceEvent for Dynamic {
     }
 
     fn field_defs(alloc: Global) -> Result<Vec<FieldDef>, AllocError> {
-        let mut fields = Vec::new(alloc);
-        fields.push(FieldDef::new(alloc, "items", FieldType::DynamicList)?)?;
-        fields.push(FieldDef::new(alloc, "table", FieldType::DynamicMap)?)?;
-        Ok(fields)
+        definitions(
+            alloc,
+            &[
+                ("items", FieldType::DynamicList),
+                ("table", FieldType::DynamicMap),
+            ],
+        )
     }
 
     fn schema_entry(alloc: Global) -> Result<SchemaEntry, AllocError> {

@@ -6,6 +6,7 @@ ghost use Rattle.trace_values.specs.Values.{boolean, integer};
 ghost use Rattle.trace_wire.specs.Schemas.{same_field};
 ghost use Rattle.trace_samples.specs.EventEntries.{also, nameless, other};
 
+use crate::events::definitions::definitions;
 use std::alloc::{AllocError, Global};
 use trace_values::leb128::EncodeError;
 use trace_values::types::{EventEncoder, FieldType, TraceField};
@@ -88,9 +89,7 @@ impl TraceEvent for AlsoByName {
     }
 
     fn field_defs(alloc: Global) -> Result<Vec<FieldDef>, AllocError> {
-        let mut fields = Vec::new(alloc);
-        fields.push(FieldDef::new(alloc, "amount", FieldType::I64)?)?;
-        Ok(fields)
+        definitions(alloc, &[("amount", FieldType::I64)])
     }
 
     fn schema_entry(alloc: Global) -> Result<SchemaEntry, AllocError> {
@@ -150,9 +149,7 @@ impl TraceEvent for Nameless {
     }
 
     fn field_defs(alloc: Global) -> Result<Vec<FieldDef>, AllocError> {
-        let mut fields = Vec::new(alloc);
-        fields.push(FieldDef::new(alloc, "", FieldType::Bool)?)?;
-        Ok(fields)
+        definitions(alloc, &[("", FieldType::Bool)])
     }
 
     fn schema_entry(alloc: Global) -> Result<SchemaEntry, AllocError> {

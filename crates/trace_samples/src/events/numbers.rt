@@ -6,6 +6,7 @@ ghost use Rattle.trace_values.specs.Values.{boolean, float, integer, number};
 ghost use Rattle.trace_wire.specs.Schemas.{same_field};
 ghost use Rattle.trace_samples.specs.EventEntries.{numbers, numbers_fields, numbers_fields_3, numbers_fields_6};
 
+use crate::events::definitions::definitions;
 use std::alloc::{AllocError, Global};
 use trace_values::leb128::EncodeError;
 use trace_values::types::{EventEncoder, F64Bits, FieldType, TraceField};
@@ -48,15 +49,18 @@ impl TraceEvent for Numbers {
     }
 
     fn field_defs(alloc: Global) -> Result<Vec<FieldDef>, AllocError> {
-        let mut fields = Vec::new(alloc);
-        fields.push(FieldDef::new(alloc, "byte", FieldType::U8)?)?;
-        fields.push(FieldDef::new(alloc, "short", FieldType::U16)?)?;
-        fields.push(FieldDef::new(alloc, "word", FieldType::U32)?)?;
-        fields.push(FieldDef::new(alloc, "long", FieldType::Varint)?)?;
-        fields.push(FieldDef::new(alloc, "signed", FieldType::I64)?)?;
-        fields.push(FieldDef::new(alloc, "real", FieldType::F64)?)?;
-        fields.push(FieldDef::new(alloc, "flag", FieldType::Bool)?)?;
-        Ok(fields)
+        definitions(
+            alloc,
+            &[
+                ("byte", FieldType::U8),
+                ("short", FieldType::U16),
+                ("word", FieldType::U32),
+                ("long", FieldType::Varint),
+                ("signed", FieldType::I64),
+                ("real", FieldType::F64),
+                ("flag", FieldType::Bool),
+            ],
+        )
     }
 
     fn schema_entry(alloc: Global) -> Result<SchemaEntry, AllocError> {

@@ -7,6 +7,7 @@ ghost use Rattle.trace_values.specs.TraceFields.{string_pairs, value_of_option};
 ghost use Rattle.trace_wire.specs.Schemas.{same_field};
 ghost use Rattle.trace_samples.specs.EventEntries.{options, options_fields, options_fields_3, options_fields_6, options_fields_9, options_fields_12};
 
+use crate::events::definitions::definitions;
 use std::alloc::{AllocError, Global};
 use trace_values::leb128::EncodeError;
 use trace_values::types::{
@@ -59,21 +60,24 @@ impl TraceEvent for Options {
     }
 
     fn field_defs(alloc: Global) -> Result<Vec<FieldDef>, AllocError> {
-        let mut fields = Vec::new(alloc);
-        fields.push(FieldDef::new(alloc, "byte", FieldType::OptionalU8)?)?;
-        fields.push(FieldDef::new(alloc, "short", FieldType::OptionalU16)?)?;
-        fields.push(FieldDef::new(alloc, "word", FieldType::OptionalU32)?)?;
-        fields.push(FieldDef::new(alloc, "long", FieldType::OptionalVarint)?)?;
-        fields.push(FieldDef::new(alloc, "signed", FieldType::OptionalI64)?)?;
-        fields.push(FieldDef::new(alloc, "real", FieldType::OptionalF64)?)?;
-        fields.push(FieldDef::new(alloc, "flag", FieldType::OptionalBool)?)?;
-        fields.push(FieldDef::new(alloc, "text", FieldType::OptionalString)?)?;
-        fields.push(FieldDef::new(alloc, "blob", FieldType::OptionalBytes)?)?;
-        fields.push(FieldDef::new(alloc, "frames", FieldType::OptionalStackFrames)?)?;
-        fields.push(FieldDef::new(alloc, "label", FieldType::OptionalPooledString)?)?;
-        fields.push(FieldDef::new(alloc, "stack", FieldType::OptionalPooledStackFrames)?)?;
-        fields.push(FieldDef::new(alloc, "pairs", FieldType::OptionalStringMap)?)?;
-        Ok(fields)
+        definitions(
+            alloc,
+            &[
+                ("byte", FieldType::OptionalU8),
+                ("short", FieldType::OptionalU16),
+                ("word", FieldType::OptionalU32),
+                ("long", FieldType::OptionalVarint),
+                ("signed", FieldType::OptionalI64),
+                ("real", FieldType::OptionalF64),
+                ("flag", FieldType::OptionalBool),
+                ("text", FieldType::OptionalString),
+                ("blob", FieldType::OptionalBytes),
+                ("frames", FieldType::OptionalStackFrames),
+                ("label", FieldType::OptionalPooledString),
+                ("stack", FieldType::OptionalPooledStackFrames),
+                ("pairs", FieldType::OptionalStringMap),
+            ],
+        )
     }
 
     fn schema_entry(alloc: Global) -> Result<SchemaEntry, AllocError> {

@@ -7,6 +7,7 @@ ghost use Rattle.trace_values.specs.TraceFields.{value_of_option};
 ghost use Rattle.trace_wire.specs.Schemas.{same_field, same_annotation};
 ghost use Rattle.trace_samples.specs.EventEntries.{poll, poll_again, poll_noted};
 
+use crate::events::definitions::definitions;
 use std::alloc::{AllocError, Global};
 use trace_values::leb128::EncodeError;
 use trace_values::types::{EventEncoder, FieldType, InternedString, TraceField};
@@ -43,11 +44,14 @@ impl TraceEvent for Poll {
     }
 
     fn field_defs(alloc: Global) -> Result<Vec<FieldDef>, AllocError> {
-        let mut fields = Vec::new(alloc);
-        fields.push(FieldDef::new(alloc, "worker", FieldType::Varint)?)?;
-        fields.push(FieldDef::new(alloc, "cpu", FieldType::OptionalU32)?)?;
-        fields.push(FieldDef::new(alloc, "label", FieldType::PooledString)?)?;
-        Ok(fields)
+        definitions(
+            alloc,
+            &[
+                ("worker", FieldType::Varint),
+                ("cpu", FieldType::OptionalU32),
+                ("label", FieldType::PooledString),
+            ],
+        )
     }
 
     fn schema_entry(alloc: Global) -> Result<SchemaEntry, AllocError> {
@@ -112,10 +116,10 @@ impl TraceEvent for PollAgain {
     }
 
     fn field_defs(alloc: Global) -> Result<Vec<FieldDef>, AllocError> {
-        let mut fields = Vec::new(alloc);
-        fields.push(FieldDef::new(alloc, "worker", FieldType::Varint)?)?;
-        fields.push(FieldDef::new(alloc, "core", FieldType::U8)?)?;
-        Ok(fields)
+        definitions(
+            alloc,
+            &[("worker", FieldType::Varint), ("core", FieldType::U8)],
+        )
     }
 
     fn schema_entry(alloc: Global) -> Result<SchemaEntry, AllocError> {
@@ -179,11 +183,14 @@ impl TraceEvent for PollNoted {
     }
 
     fn field_defs(alloc: Global) -> Result<Vec<FieldDef>, AllocError> {
-        let mut fields = Vec::new(alloc);
-        fields.push(FieldDef::new(alloc, "worker", FieldType::Varint)?)?;
-        fields.push(FieldDef::new(alloc, "cpu", FieldType::OptionalU32)?)?;
-        fields.push(FieldDef::new(alloc, "label", FieldType::PooledString)?)?;
-        Ok(fields)
+        definitions(
+            alloc,
+            &[
+                ("worker", FieldType::Varint),
+                ("cpu", FieldType::OptionalU32),
+                ("label", FieldType::PooledString),
+            ],
+        )
     }
 
     fn schema_entry(alloc: Global) -> Result<SchemaEntry, AllocError> {

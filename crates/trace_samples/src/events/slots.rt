@@ -6,6 +6,7 @@ ghost use Rattle.trace_values.specs.Values.{number};
 ghost use Rattle.trace_wire.specs.Schemas.{same_field, same_annotation};
 ghost use Rattle.trace_samples.specs.EventEntries.{annotated, fast_slot, last_slot, other};
 
+use crate::events::definitions::definitions;
 use std::alloc::{AllocError, Global};
 use trace_values::leb128::EncodeError;
 use trace_values::types::{EventEncoder, FieldType, TraceField};
@@ -136,9 +137,7 @@ impl TraceEvent for LastSlot {
     }
 
     fn field_defs(alloc: Global) -> Result<Vec<FieldDef>, AllocError> {
-        let mut fields = Vec::new(alloc);
-        fields.push(FieldDef::new(alloc, "number", FieldType::U16)?)?;
-        Ok(fields)
+        definitions(alloc, &[("number", FieldType::U16)])
     }
 
     fn schema_entry(alloc: Global) -> Result<SchemaEntry, AllocError> {
@@ -198,9 +197,7 @@ impl TraceEvent for Annotated {
     }
 
     fn field_defs(alloc: Global) -> Result<Vec<FieldDef>, AllocError> {
-        let mut fields = Vec::new(alloc);
-        fields.push(FieldDef::new(alloc, "load", FieldType::U8)?)?;
-        Ok(fields)
+        definitions(alloc, &[("load", FieldType::U8)])
     }
 
     fn schema_entry(alloc: Global) -> Result<SchemaEntry, AllocError> {

@@ -6,6 +6,7 @@ ghost use Rattle.trace_values.specs.Values.{number};
 ghost use Rattle.trace_wire.specs.Schemas.{same_field};
 ghost use Rattle.trace_samples.specs.EventEntries.{wide, wide_fields, wide_fields_3, wide_fields_6, wide_fields_9, wide_fields_12, wide_fields_15, wide_fields_18};
 
+use crate::events::definitions::definitions;
 use std::alloc::{AllocError, Global};
 use trace_values::leb128::EncodeError;
 use trace_values::types::{EventEncoder, FieldType, TraceField};
@@ -65,28 +66,31 @@ impl TraceEvent for Wide {
     }
 
     fn field_defs(alloc: Global) -> Result<Vec<FieldDef>, AllocError> {
-        let mut fields = Vec::new(alloc);
-        fields.push(FieldDef::new(alloc, "v0", FieldType::Varint)?)?;
-        fields.push(FieldDef::new(alloc, "v1", FieldType::Varint)?)?;
-        fields.push(FieldDef::new(alloc, "v2", FieldType::Varint)?)?;
-        fields.push(FieldDef::new(alloc, "v3", FieldType::Varint)?)?;
-        fields.push(FieldDef::new(alloc, "v4", FieldType::Varint)?)?;
-        fields.push(FieldDef::new(alloc, "v5", FieldType::Varint)?)?;
-        fields.push(FieldDef::new(alloc, "v6", FieldType::Varint)?)?;
-        fields.push(FieldDef::new(alloc, "v7", FieldType::Varint)?)?;
-        fields.push(FieldDef::new(alloc, "v8", FieldType::Varint)?)?;
-        fields.push(FieldDef::new(alloc, "v9", FieldType::Varint)?)?;
-        fields.push(FieldDef::new(alloc, "v10", FieldType::Varint)?)?;
-        fields.push(FieldDef::new(alloc, "v11", FieldType::Varint)?)?;
-        fields.push(FieldDef::new(alloc, "v12", FieldType::Varint)?)?;
-        fields.push(FieldDef::new(alloc, "v13", FieldType::Varint)?)?;
-        fields.push(FieldDef::new(alloc, "v14", FieldType::Varint)?)?;
-        fields.push(FieldDef::new(alloc, "v15", FieldType::Varint)?)?;
-        fields.push(FieldDef::new(alloc, "v16", FieldType::Varint)?)?;
-        fields.push(FieldDef::new(alloc, "v17", FieldType::Varint)?)?;
-        fields.push(FieldDef::new(alloc, "v18", FieldType::Varint)?)?;
-        fields.push(FieldDef::new(alloc, "v19", FieldType::Varint)?)?;
-        Ok(fields)
+        definitions(
+            alloc,
+            &[
+                ("v0", FieldType::Varint),
+                ("v1", FieldType::Varint),
+                ("v2", FieldType::Varint),
+                ("v3", FieldType::Varint),
+                ("v4", FieldType::Varint),
+                ("v5", FieldType::Varint),
+                ("v6", FieldType::Varint),
+                ("v7", FieldType::Varint),
+                ("v8", FieldType::Varint),
+                ("v9", FieldType::Varint),
+                ("v10", FieldType::Varint),
+                ("v11", FieldType::Varint),
+                ("v12", FieldType::Varint),
+                ("v13", FieldType::Varint),
+                ("v14", FieldType::Varint),
+                ("v15", FieldType::Varint),
+                ("v16", FieldType::Varint),
+                ("v17", FieldType::Varint),
+                ("v18", FieldType::Varint),
+                ("v19", FieldType::Varint),
+            ],
+        )
     }
 
     fn schema_entry(alloc: Global) -> Result<SchemaEntry, AllocError> {
