@@ -1,6 +1,6 @@
 -- What a sink is given of a stream, from what the reader does.
 use Rattle.std.proofs.Common.{◌≡◌, ◌≢◌, ℕ, ◌+◌, ◌-◌, ◌≤◌, List, [], ◌∷◌, length, drop, None, String, string_bytes, Result, Ok, Err, IfOk, IfErr, codes, refl, sym, ap, subst, ◌∙◌, arith, inl, inr}
-use Rattle.std.proofs.lemmas.List.{length-append, length-drop}
+use Rattle.std.proofs.lemmas.List.{length-append}
 use Rattle.std.specs.declared.alloc.Global.{Global}
 use Rattle.trace_values.specs.Number.{AreBytes}
 use Rattle.trace_values.specs.Values.{borrowed}
@@ -17,6 +17,7 @@ use Rattle.dial9_trace_format.specs.declared.decoder.error.DecodeError.{DecodeEr
 use Rattle.dial9_trace_format.specs.declared.decoder.error.DecodeErrorKind.{DecodeErrorKind}
 use Rattle.dial9_trace_format.specs.declared.decoder.error.DecodeErrorKind.TheVariants as kinds
 use Rattle.trace_wire.specs.declared.schema.WireTypeId.{WireTypeId}
+use Rattle.dial9_trace_format.proofs.DecoderRuns.{left_at, goes_inside}
 use Rattle.dial9_trace_format.proofs.FaultLemmas.{fault_is_no_frame}
 use Rattle.trace_recordings.specs.declared.sink.Counter.{Counter}
 use Rattle.trace_recordings.specs.Tallies.{counted_on}
@@ -34,20 +35,10 @@ counted_from n (e ∷ events) s t is (m, one, more) =
 
 -- ---- the place
 
-left_at : (position : ℕ) (input : List ℕ) → position ≤ length input → position + length (drop position input) ≡ length input
-left_at position input h = omega (arith, length-drop position input)
-
-goes_inside : (old new : DecoderState) (frames : List Frame) → Goes borrowed old new frames → old.position ≤ length old.input → new.position ≤ length new.input
-goes_inside old new frames g h =
-    let e : length (rest_of old) ≡ length g.core.here + length (rest_of new) = ap length g.core.parts ∙ length-append g.core.here (rest_of new) in
-    let same : length new.input ≡ length old.input = ap (λ (d : DecoderState). length d.input) g.moved in
-    let there : new.position ≡ old.position + length g.core.here = ap (λ (d : DecoderState). d.position) g.moved in
-    omega (arith, length-drop old.position old.input)
-
 place_of : (old new : DecoderState) (frames : List Frame) → Goes borrowed old new frames → old.position ≤ length old.input → new.position ≡ length old.input - length (rest_of new)
 place_of old new frames g h =
     let same : length new.input ≡ length old.input = ap (λ (d : DecoderState). length d.input) g.moved in
-    omega (arith, same, left_at new.position new.input (goes_inside old new frames g h))
+    omega (arith, same, left_at new.position new.input (goes_inside borrowed old new frames g h))
 
 -- ---- the end
 
@@ -88,7 +79,7 @@ ends_stopped input version mid new e frames inside fits g f =
 ends_conflict : (input : List ℕ) (version : ℕ) (mid new : DecoderState) (id : WireTypeId) (frames : List Frame) → 5 ≤ length input → Goes borrowed (new_decoder input version) mid frames → Conflicts borrowed mid new id → EndsAt input frames Conflict new.position
 ends_conflict input version mid new id frames inside g x =
     let c = x.core in
-    let here = goes_inside (new_decoder input version) mid frames g inside in
+    let here = goes_inside borrowed (new_decoder input version) mid frames g inside in
     let same : length mid.input ≡ length input = ap (λ (d : DecoderState). length d.input) g.moved in
     let there : new.position ≡ mid.position + length c.begins.here = ap (λ (d : DecoderState). d.position) x.failed in
     let e : length (rest_of mid) ≡ length c.begins.here + length (rest_of new) = ap length c.begins.parts ∙ length-append c.begins.here (rest_of new) in

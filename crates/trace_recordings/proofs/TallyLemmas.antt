@@ -1,7 +1,8 @@
 -- One more of a name.
-use Rattle.std.proofs.Common.{◌≡◌, ℕ, zero, suc, ◌<◌, ◌≤◌, nat_lt, Bool, true, false, cond, Some, None, List, [], ◌∷◌, ◌++◌, length, set, get_or, refl, subst, arith}
+use Rattle.std.proofs.Common.{◌≡◌, ℕ, zero, suc, ◌<◌, ◌≤◌, nat_lt, Bool, true, false, cond, Some, None, List, [], ◌∷◌, ◌++◌, length, set, get_or, refl, sym, subst, arith}
 use Rattle.std.specs.List.{position, position_or_len}
 use Rattle.std.proofs.lemmas.Bool.{ltb-true, ltb-false}
+use Rattle.std.proofs.lemmas.Option.{cond_some}
 use Rattle.std.proofs.lemmas.List.Sums.{fails_before_first, passes_at_first}
 use Rattle.trace_recordings.specs.declared.tally.LeftOut.{LeftOut}
 use Rattle.trace_recordings.specs.Tallies.{counted_on, counts_of, is_named, with_name}
@@ -19,10 +20,6 @@ counted_at name (x ∷ xs) (suc i) y d inside before here counted =
     let later : counts_of (set xs i y) ≡ with_name name (counts_of xs) = counted_at name xs i y d (omega (arith, inside)) (λ k h. before (suc k) (omega (arith, h))) here counted in
     rw (first, later)
 
-place_found : (b : Bool) (n i : ℕ) → Some i ≡ cond b (Some n) None → (b ≡ true) × (i ≡ n)
-place_found true n i h = (refl, cc)
-place_found false n i h = absurd (cc)
-
 no_place : (b : Bool) (n : ℕ) → None ≡ cond b (Some n) None → b ≡ false
 no_place true n h = absurd (cc)
 no_place false n h = refl
@@ -31,10 +28,10 @@ no_place false n h = refl
 pub counted_first : (name : List ℕ) (xs : List LeftOut) (i : ℕ) (old new d : LeftOut) → Some i ≡ position (is_named name) xs → old ≡ get_or xs i d → IsCounted old new → counts_of (set xs i new) ≡ with_name name (counts_of xs)
 counted_first name xs i old new d place is counted =
     let p = is_named name in
-    let found = place_found (nat_lt (position_or_len p xs) (length xs)) (position_or_len p xs) i place in
+    let found = cond_some (nat_lt (position_or_len p xs) (length xs)) (position_or_len p xs) i (sym place) in
     let inside : position_or_len p xs < length xs = ltb-true (position_or_len p xs) (length xs) found.0 in
     let before : (k : ℕ) → k < i → p (get_or xs k d) ≡ false = λ k h. fails_before_first p xs k d (omega (arith, h, found.1)) in
-    let here : p (get_or xs i d) ≡ true = rw found.1 (passes_at_first p xs d inside) in
+    let here : p (get_or xs i d) ≡ true = rw (sym found.1) (passes_at_first p xs d inside) in
     counted_at name xs i new d (omega (arith, inside, found.1)) before here (subst (λ (l : LeftOut). IsCounted l new) is counted)
 
 not_named : (name : List ℕ) (xs : List LeftOut) (d : LeftOut) → ((k : ℕ) → k < length xs → is_named name (get_or xs k d) ≡ false) → with_name name (counts_of xs) ≡ counts_of xs ++ (name, 1) ∷ []
