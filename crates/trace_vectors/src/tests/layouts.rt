@@ -11,7 +11,8 @@ use std::test::Fail;
 fn fields_of(alloc: Global, types: &[FieldType]) -> Result<Vec<FieldDef>, AllocError> {
     let mut fields = Vec::new(alloc);
     for field_type in types {
-        fields.push(FieldDef::new(alloc, "f", *field_type)?)?;
+        let field = FieldDef::new(alloc, "f", *field_type)?;
+        fields.push(field)?;
     }
     Ok(fields)
 }
