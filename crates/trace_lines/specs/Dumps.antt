@@ -64,7 +64,7 @@ pub record IsStreamDump (form : Form) (input : List ℕ) (status : ℕ) (text : 
   pub version : ℕ
   pub header : StartsWith input version
   pub lines : List ℕ
-  pub behind : IsDumpFrom form empty no_pools (length input) (drop 5 input) status lines
+  pub following : IsDumpFrom form empty no_pools (length input) (drop 5 input) status lines
   pub text_is : text ≡ line (first_line version) ++ lines
 
 -- the dump of any input in a form
@@ -83,8 +83,8 @@ IsDump resolve = IsDumpAs (form_by resolve)
 -- bytes that the dump of an input in a form begins with
 pub record BeginsDumpAs (form : Form) (input : List ℕ) (written : List ℕ) : Type 0 where
   pub status : ℕ
-  pub behind : List ℕ
-  pub is : IsDumpAs form input status (written ++ behind)
+  pub following : List ℕ
+  pub is : IsDumpAs form input status (written ++ following)
 
 -- bytes that the dump of an input begins with
 abbrev pub BeginsDump : Bool → List ℕ → List ℕ → Type 0

@@ -2,7 +2,7 @@
 
 ghost use Rattle.std.specs.Prelude.{◌≡◌, ◌++◌, OnOk, codes, string_bytes};
 ghost use Rattle.std.specs.List.{join_by};
-ghost use Rattle.trace_lines.specs.Lines.{escaped_byte, quoted_byte, quoted, address, address_list, sixteen_digits};
+ghost use Rattle.trace_lines.specs.Lines.{escaped_byte, quoted_byte, quoted, address_digits, address_list, sixteen_digits};
 
 use std::alloc::AllocError;
 

@@ -4,7 +4,7 @@ ghost use Rattle.std.specs.Prelude.{◌≡◌, ◌++◌, OnOk, codes, string_byt
 ghost use Rattle.std.specs.List.{join_by};
 ghost use Rattle.trace_values.specs.Reading.{values_to_items, values_to_pairs};
 ghost use Rattle.trace_values.specs.View.{view, views, pair_views, text_pairs_view};
-ghost use Rattle.trace_lines.specs.Lines.{truth, text_pair, value_text, item_texts, pair_texts};
+ghost use Rattle.trace_lines.specs.Lines.{truth, pair_text, value_text, item_texts, pair_texts};
 
 use crate::text::{push_addresses, push_quoted, push_sixteen_digits};
 use std::alloc::AllocError;
@@ -93,7 +93,7 @@ fn push_pairs(out: &mut String, pairs: &[(FieldValue, FieldValue)]) -> Result<()
 }
 
 fn push_text_pairs(out: &mut String, pairs: &[(Vec<u8>, Vec<u8>)]) -> Result<(), AllocError>
-    ensures { OnOk result (string_bytes out.new ≡ string_bytes out.old ++ join_by (λ p. text_pair (p.0.items, p.1.items)) (codes ",") pairs.now) }
+    ensures { OnOk result (string_bytes out.new ≡ string_bytes out.old ++ join_by (λ p. pair_text (p.0.items, p.1.items)) (codes ",") pairs.now) }
 {
     let Some((first, others)) = pairs.split_first() else {
         return Ok(());
@@ -107,7 +107,7 @@ fn push_text_pairs(out: &mut String, pairs: &[(Vec<u8>, Vec<u8>)]) -> Result<(),
 }
 
 fn push_text_pair(out: &mut String, pair: &(Vec<u8>, Vec<u8>)) -> Result<(), AllocError>
-    ensures { OnOk result (string_bytes out.new ≡ string_bytes out.old ++ text_pair (pair.now.0.items, pair.now.1.items)) }
+    ensures { OnOk result (string_bytes out.new ≡ string_bytes out.old ++ pair_text (pair.now.0.items, pair.now.1.items)) }
 {
     push_quoted(out, &pair.0)?;
     out.push('=')?;

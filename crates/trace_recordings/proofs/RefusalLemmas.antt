@@ -10,9 +10,9 @@ use Rattle.trace_recordings.specs.declared.script.definitions.Definition.{Defini
 use Rattle.trace_recordings.specs.declared.script.call.Call.{Call}
 use Rattle.trace_recordings.specs.declared.script.call.Call.TheVariants.{DefineType, WriteTyped, Resume}
 use Rattle.trace_recordings.specs.Playing.{Defined, Playing, TurnsEach, start}
-use Rattle.trace_recordings.specs.Refusals.{FirstMissing, IsHad, IsOfPlayer, IsUnheld, LacksHeader, LacksType, LeavesOut, MissesAt, NamesNone, Refuses, RefusesCall, RefusesUnder, ResumesHeadless, StopsAt, WritesTyped, misses}
+use Rattle.trace_recordings.specs.Refusals.{FirstMissing, IsHad, IsOfPlayer, IsUnheld, LacksHeader, LacksType, LeavesOut, MissesAt, NamesNone, RefusesScript, RefusesCall, RefusesUnder, ResumesHeadless, StopsAtLine, WritesTyped, misses}
 use Rattle.trace_recordings.specs.Scripts.{IsScript, word_of}
-use Rattle.trace_recordings.specs.Tallies.{counted_on}
+use Rattle.trace_recordings.specs.Tallies.{counted_up}
 
 -- one more that the library has
 had_last : (calls : List Call) (call : Call) → AllByRecursion IsHad calls → misses call ≡ false → AllByRecursion IsHad (calls ++ call ∷ [])
@@ -41,15 +41,15 @@ front_length [] i inside = absurd (omega (arith, inside))
 front_length (c ∷ calls) zero inside = refl
 front_length (c ∷ calls) (suc i) inside = omega (arith, front_length calls i (omega (arith, inside)))
 
-counted : (calls : List Call) (i line : ℕ) → i < length calls → line ≡ counted_on i 1 → line ≡ counted_on (length (take i calls)) 1
-counted calls i line inside n = n ∙ ap (λ (k : ℕ). counted_on k 1) (sym (front_length calls i inside))
+counted : (calls : List Call) (i line : ℕ) → i < length calls → line ≡ counted_up i 1 → line ≡ counted_up (length (take i calls)) 1
+counted calls i line inside n = n ∙ ap (λ (k : ℕ). counted_up k 1) (sym (front_length calls i inside))
 
-pub first_missing : (calls : List Call) (i line : ℕ) (call : Call) (word : List ℕ) → i < length calls → call ≡ get_or calls i call → AllByRecursion IsHad (take i calls) → misses call ≡ true → line ≡ counted_on i 1 → word ≡ word_of call → FirstMissing calls line word
+pub first_missing : (calls : List Call) (i line : ℕ) (call : Call) (word : List ℕ) → i < length calls → call ≡ get_or calls i call → AllByRecursion IsHad (take i calls) → misses call ≡ true → line ≡ counted_up i 1 → word ≡ word_of call → FirstMissing calls line word
 first_missing calls i line call word inside is had missing n w =
     let parts = parts_at calls i call inside is in
     record { before = take i calls; call = call; after = parts.0; parts = parts.1; had = had; missing = missing; counts = counted calls i line inside n; word_is = w }
 
-pub left_out_at : (calls : List Call) (i line : ℕ) (call : Call) (e : PlayError) → i < length calls → call ≡ get_or calls i call → AllByRecursion IsHad (take i calls) → line ≡ counted_on i 1 → MissesAt line call e → LeavesOut calls e
+pub left_out_at : (calls : List Call) (i line : ℕ) (call : Call) (e : PlayError) → i < length calls → call ≡ get_or calls i call → AllByRecursion IsHad (take i calls) → line ≡ counted_up i 1 → MissesAt line call e → LeavesOut calls e
 left_out_at calls i line call (plays.Script error) inside is had n r = absurd r
 left_out_at calls i line call (plays.LeftOut other word) inside is had n r = first_missing calls i other call word.now inside is had r.2 (r.0 ∙ n) r.1
 left_out_at calls i line call (plays.Unknown other handle) inside is had n r = absurd r
@@ -58,15 +58,15 @@ left_out_at calls i line call (plays.Headless other) inside is had n r = absurd 
 left_out_at calls i line call (plays.Encoder error) inside is had n r = absurd r
 left_out_at calls i line call plays.Memory inside is had n r = tt
 
-stops_at : (calls : List Call) (i line : ℕ) (call : Call) (reached : Playing) (why : Playing → Call → Type 0) → AllByRecursion IsHad calls → i < length calls → call ≡ get_or calls i call → TurnsEach start (take i calls) reached → line ≡ counted_on i 1
-    → why reached call → StopsAt calls line why
+stops_at : (calls : List Call) (i line : ℕ) (call : Call) (reached : Playing) (why : Playing → Call → Type 0) → AllByRecursion IsHad calls → i < length calls → call ≡ get_or calls i call → TurnsEach start (take i calls) reached → line ≡ counted_up i 1
+    → why reached call → StopsAtLine calls line why
 stops_at calls i line call reached why had inside is turns n so =
     let parts = parts_at calls i call inside is in
     record { before = take i calls; call = call; after = parts.0; parts = parts.1; had = had; counts = counted calls i line inside n; reached = reached; turns = turns; is_so = so }
 
 -- a call was not made
-pub not_made : (text : List ℕ) (calls : List Call) (i line : ℕ) (call : Call) (reached : Playing) (e : PlayError) → IsScript calls text → AllByRecursion IsHad calls → i < length calls → call ≡ get_or calls i call → TurnsEach start (take i calls) reached → line ≡ counted_on i 1
-    → RefusesCall reached line call e → Refuses text e
+pub not_made : (text : List ℕ) (calls : List Call) (i line : ℕ) (call : Call) (reached : Playing) (e : PlayError) → IsScript calls text → AllByRecursion IsHad calls → i < length calls → call ≡ get_or calls i call → TurnsEach start (take i calls) reached → line ≡ counted_up i 1
+    → RefusesCall reached line call e → RefusesScript text e
 not_made text calls i line call reached (plays.Script error) script had inside is turns n r = absurd r
 not_made text calls i line call reached (plays.LeftOut other word) script had inside is turns n r =
     absurd (let wrong : true ≡ false = sym r ∙ had_at calls i call inside is had in cc)
@@ -80,7 +80,7 @@ not_made text calls i line call reached (plays.Encoder error) script had inside 
 not_made text calls i line call reached plays.Memory script had inside is turns n r = tt
 
 -- the script was not begun
-pub not_begun : (text : List ℕ) (calls : List Call) (e : PlayError) → IsScript calls text → LeavesOut calls e → Refuses text e
+pub not_begun : (text : List ℕ) (calls : List Call) (e : PlayError) → IsScript calls text → LeavesOut calls e → RefusesScript text e
 not_begun text calls (plays.Script error) script r = absurd r
 not_begun text calls (plays.LeftOut line word) script r = (calls, script, r)
 not_begun text calls (plays.Unknown line handle) script r = absurd r
@@ -90,7 +90,7 @@ not_begun text calls (plays.Headless line) script r = absurd r
 not_begun text calls plays.Memory script r = tt
 
 -- no player was made
-pub no_player : (text : List ℕ) (e : PlayError) → IsOfPlayer e → Refuses text e
+pub no_player : (text : List ℕ) (e : PlayError) → IsOfPlayer e → RefusesScript text e
 no_player text (plays.Script error) r = absurd r
 no_player text (plays.LeftOut line word) r = absurd r
 no_player text (plays.Unknown line handle) r = absurd r

@@ -11,8 +11,8 @@ use Rattle.trace_values.specs.View.{view, views}
 
 -- what stands at the first index that passes, passes
 pub passes_there : {A : Type 0} (p : A → Bool) (xs : List A) (i : ℕ) (d : A) → Some i ≡ position p xs → p (get_or xs i d) ≡ true
-passes_there p xs i d place =
-    let found = cond_some (nat_lt (position_or_len p xs) (length xs)) (position_or_len p xs) i (sym place) in
+passes_there p xs i d index =
+    let found = cond_some (nat_lt (position_or_len p xs) (length xs)) (position_or_len p xs) i (sym index) in
     let inside : position_or_len p xs < length xs = ltb-true (position_or_len p xs) (length xs) found.0 in
     rw (sym found.1) (passes_at_first p xs d inside)
 

@@ -11,7 +11,7 @@ use Rattle.trace_recordings.specs.declared.script.fault.Fault.TheVariants.{Memor
 use Rattle.trace_recordings.specs.declared.script.call.Call.{Call}
 use Rattle.trace_recordings.specs.declared.script.call.Call.TheVariants.{Nothing, Define, Register, Event, DefineType, WriteTyped, InternString, InternStack, StringPool, StackPool, Reset, Resume, Raw, Bare}
 use Rattle.trace_recordings.specs.Scripts.{Says, SayEach, lines_of, IsScript, IsBrokenAt, IsFirstLine, GainsCall, SaysNoWord, is_silent}
-use Rattle.trace_recordings.specs.Tallies.{counted_on}
+use Rattle.trace_recordings.specs.Tallies.{counted_up}
 
 pub not_equal : (x y : ℕ) → (x ≡ y → ⊥) → (x == y) ≡ false
 not_equal x y h = grind (arith, nat_tests)
@@ -55,7 +55,7 @@ as_many (l ∷ lines) [] each = absurd each
 as_many (l ∷ lines) (c ∷ calls) each = omega (arith, as_many lines calls each.1)
 
 -- the next line is broken
-pub broken_at : (text rest line : List ℕ) (more : Option (List ℕ)) (calls : List Call) (error : ScriptError) → SayFront text calls rest → IsFirstLine rest line more → error.line ≡ counted_on (length calls) 1 → (error.fault ≢ Memory → SaysNoWord line) → IsBrokenAt text error
+pub broken_at : (text rest line : List ℕ) (more : Option (List ℕ)) (calls : List Call) (error : ScriptError) → SayFront text calls rest → IsFirstLine rest line more → error.line ≡ counted_up (length calls) 1 → (error.fault ≢ Memory → SaysNoWord line) → IsBrokenAt text error
 broken_at text rest line None calls error front first n u = record {
   before = front.front;
   calls = calls;
@@ -64,7 +64,7 @@ broken_at text rest line None calls error front first n u = record {
   after = [];
   parts = front.parts ∙ ap (λ (t : List (List ℕ)). front.front ++ t) first;
   unsaid = u;
-  counts = n ∙ ap (λ (k : ℕ). counted_on k 1) (sym (as_many front.front calls front.said));
+  counts = n ∙ ap (λ (k : ℕ). counted_up k 1) (sym (as_many front.front calls front.said));
 }
 broken_at text rest line (Some more) calls error front first n u = record {
   before = front.front;
@@ -74,7 +74,7 @@ broken_at text rest line (Some more) calls error front first n u = record {
   after = lines_of more;
   parts = front.parts ∙ ap (λ (t : List (List ℕ)). front.front ++ t) first;
   unsaid = u;
-  counts = n ∙ ap (λ (k : ℕ). counted_on k 1) (sym (as_many front.front calls front.said));
+  counts = n ∙ ap (λ (k : ℕ). counted_up k 1) (sym (as_many front.front calls front.said));
 }
 
 -- a line that is none of these says no call of one word

@@ -20,18 +20,18 @@ use Rattle.trace_wire.specs.declared.schema.WireTypeId.{WireTypeId}
 use Rattle.dial9_trace_format.proofs.DecoderRuns.{left_at, goes_inside}
 use Rattle.dial9_trace_format.proofs.FaultLemmas.{fault_is_no_frame}
 use Rattle.trace_recordings.specs.declared.sink.Counter.{Counter}
-use Rattle.trace_recordings.specs.Tallies.{counted_on}
+use Rattle.trace_recordings.specs.Tallies.{counted_up}
 use Rattle.trace_recordings.specs.Sinks.{counts, EndsAt, sink_text, IsStreamSink}
 
 -- ---- the count
 
-counted_more : (n : ℕ) (s m : Counter) → s.events ≡ counted_on 0 n → m.events ≡ counted_on s.events 1 → m.events ≡ counted_on 0 (n + 1)
+counted_more : (n : ℕ) (s m : Counter) → s.events ≡ counted_up 0 n → m.events ≡ counted_up s.events 1 → m.events ≡ counted_up 0 (n + 1)
 counted_more n s m is more = omega (arith, is, more)
 
-counted_from : (n : ℕ) (events : List ShownEvent) (s t : Counter) → s.events ≡ counted_on 0 n → Takes (visiting {S = Counter} {E = ⊥} counts) events s t → t.events ≡ counted_on 0 (n + length events)
-counted_from n [] s t is same = subst (λ (x : Counter). x.events ≡ counted_on 0 (n + 0)) same (is ∙ ap (counted_on 0) (omega arith))
+counted_from : (n : ℕ) (events : List ShownEvent) (s t : Counter) → s.events ≡ counted_up 0 n → Takes (visiting {S = Counter} {E = ⊥} counts) events s t → t.events ≡ counted_up 0 (n + length events)
+counted_from n [] s t is same = subst (λ (x : Counter). x.events ≡ counted_up 0 (n + 0)) same (is ∙ ap (counted_up 0) (omega arith))
 counted_from n (e ∷ events) s t is (m, one, more) =
-    counted_from (n + 1) events m t (counted_more n s m is one) more ∙ ap (counted_on 0) (omega arith)
+    counted_from (n + 1) events m t (counted_more n s m is one) more ∙ ap (counted_up 0) (omega arith)
 
 -- ---- the place
 
@@ -94,7 +94,7 @@ ends_conflict input version mid new id frames inside g x =
 -- ---- the lines
 
 made : (input : List ℕ) (version : ℕ) (frames : List Frame) (end : Ending) (place count : ℕ) (told text : List ℕ) → StartsWith input version → EndsAt input frames end place → (end ≡ Whole → told ≡ codes "ok")
-    → count ≡ counted_on 0 (length (events_of empty no_pools frames)) → text ≡ sink_text count told place → IsStreamSink input text
+    → count ≡ counted_up 0 (length (events_of empty no_pools frames)) → text ≡ sink_text count told place → IsStreamSink input text
 made input version frames end place count told text header ends whole is t = record {
   version = version;
   header = header;
@@ -107,8 +107,8 @@ made input version frames end place count told text header ends whole is t = rec
   text_is = t ∙ ap (λ (n : ℕ). sink_text n told place) is;
 }
 
-count_of : (input : List ℕ) (version : ℕ) (mid : DecoderState) (frames : List Frame) (s t : Counter) → s.events ≡ 0 → TakesRun (visiting {S = Counter} {E = ⊥} counts) (new_decoder input version) mid frames s t → t.events ≡ counted_on 0 (length (events_of empty no_pools frames))
-count_of input version mid frames s t none run = counted_from 0 (events_of empty no_pools frames) s t (none ∙ omega arith) run.taken ∙ ap (counted_on 0) (omega arith)
+count_of : (input : List ℕ) (version : ℕ) (mid : DecoderState) (frames : List Frame) (s t : Counter) → s.events ≡ 0 → TakesRun (visiting {S = Counter} {E = ⊥} counts) (new_decoder input version) mid frames s t → t.events ≡ counted_up 0 (length (events_of empty no_pools frames))
+count_of input version mid frames s t none run = counted_from 0 (events_of empty no_pools frames) s t (none ∙ omega arith) run.taken ∙ ap (counted_up 0) (omega arith)
 
 fails_by : (input : List ℕ) (version : ℕ) (mid new : DecoderState) (e : DecodeError) (frames : List Frame) (failure : Failure) → 5 ≤ length input → Goes borrowed (new_decoder input version) mid frames → e.kind ≢ kinds.OutOfMemory → FailsBy borrowed mid new failure
     → e ≡ error_at new.position failure → EndsAt input frames Conflict new.position

@@ -91,8 +91,8 @@ abbrev pub annotation_of : Annotation → schemas.Annotation
 annotation_of a = record { index = a.index; key = string_bytes a.key; value = string_bytes a.value }
 
 -- the schema that a definition says
-abbrev pub entry_of : Definition → schemas.Entry
-entry_of d = record { name = string_bytes d.name; fields = d.fields.items; annotations = map annotation_of d.annotations.items }
+abbrev pub defined_entry : Definition → schemas.Entry
+defined_entry d = record { name = string_bytes d.name; fields = d.fields.items; annotations = map annotation_of d.annotations.items }
 
 abbrev pub pool_text_of : PoolText → ℕ × List ℕ
 pool_text_of e = (e.id, e.bytes.items)
@@ -113,15 +113,15 @@ abbrev pub under : {A : Type 0} → List (ℕ × A) → ℕ → Option A
 under defined handle = lookup (is_at (nat_cmp handle)) defined
 
 -- what a call asks of an encoder, after these definitions
-abbrev pub action_of : Defined → Call → Option Action
-action_of defined (Register handle) = option_map (λ e. register e) (under defined.schemas handle)
-action_of defined (Event handle time values) = option_map (λ e. write_event e time (views values.items)) (under defined.schemas handle)
-action_of defined (WriteTyped handle time values) = option_map (λ s. write_type (slot_of s) (entry_in s) time (views values.items)) (under defined.types handle)
-action_of defined (InternString text) = Some (intern_string (string_bytes text))
-action_of defined (InternStack frames) = Some (intern_stack frames.items)
-action_of defined (StringPool entries) = Some (write_string_pool (map pool_text_of entries.items))
-action_of defined (StackPool entries) = Some (write_stack_pool (map pool_stack_of entries.items))
-action_of defined other = None
+abbrev pub action_asked : Defined → Call → Option Action
+action_asked defined (Register handle) = option_map (λ e. register e) (under defined.schemas handle)
+action_asked defined (Event handle time values) = option_map (λ e. write_event e time (views values.items)) (under defined.schemas handle)
+action_asked defined (WriteTyped handle time values) = option_map (λ s. write_type (slot_of s) (entry_in s) time (views values.items)) (under defined.types handle)
+action_asked defined (InternString text) = Some (intern_string (string_bytes text))
+action_asked defined (InternStack frames) = Some (intern_stack frames.items)
+action_asked defined (StringPool entries) = Some (write_string_pool (map pool_text_of entries.items))
+action_asked defined (StackPool entries) = Some (write_stack_pool (map pool_stack_of entries.items))
+action_asked defined other = None
 
 -- the call asks something of an encoder
 abbrev pub asks : Call → Bool
@@ -136,7 +136,7 @@ asks call = true
 
 -- an encoder over a list of bytes gives this answer to what a call asks of it
 abbrev pub DoesCall : Defined → EncoderView (Vec ℕ Global) → EncoderView (Vec ℕ Global) → Call → Reply → Type 0
-DoesCall defined old new call reply = (action : Action) × (action_of defined call ≡ Some action) × Does (λ v. telling (Some v.items)) old action reply new
+DoesCall defined old new call reply = (action : Action) × (action_asked defined call ≡ Some action) × Does (λ v. telling (Some v.items)) old action reply new
 
 -- ---- the turns of a script
 
@@ -160,7 +160,7 @@ with_reply note p = record p { replies = p.replies ++ reply_line note p.state.co
 
 -- the schema of a definition stands under its handle; one that stood there before goes
 abbrev pub with_schema : ℕ → Definition → Playing → Playing
-with_schema handle definition p = record p { defined = record p.defined { schemas = insert_entry nat_cmp p.defined.schemas handle (entry_of definition) } }
+with_schema handle definition p = record p { defined = record p.defined { schemas = insert_entry nat_cmp p.defined.schemas handle (defined_entry definition) } }
 
 -- a sample type stands under its handle; one that stood there before goes
 abbrev pub with_type : ℕ → Sample → Playing → Playing
@@ -168,12 +168,12 @@ with_type handle sample p = record p { defined = record p.defined { types = inse
 
 -- the sample type of this slot and this schema stands under the handle
 abbrev pub DefinesType : ℕ → ℕ → Definition → Playing → Playing → Type 0
-DefinesType handle slot definition p q = (sample : Sample) × (is_sample slot (entry_of definition) sample ≡ true) × (q ≡ with_type handle sample p)
+DefinesType handle slot definition p q = (sample : Sample) × (is_sample slot (defined_entry definition) sample ≡ true) × (q ≡ with_type handle sample p)
 
 -- the encoder gives this answer to what a call asks of it, and what it sends comes after the output
 pub record Asks (p : Playing) (call : Call) (reply : Reply) (q : Playing) : Type 0 where
   pub action : Action
-  pub asked : action_of p.defined call ≡ Some action
+  pub asked : action_asked p.defined call ≡ Some action
   pub sent : List ℕ
   pub answered : Answered p.state action reply sent q.state
   pub output : q ≡ record p { state = q.state; bytes = p.bytes ++ sent }

@@ -8,13 +8,13 @@ use Rattle.trace_recordings.specs.declared.script.call.Call.{Call}
 use Rattle.trace_recordings.specs.declared.script.call.Call.TheVariants.{Register, Event, DefineType, WriteTyped, Resume}
 use Rattle.trace_recordings.specs.Scripts.{IsScript, IsBrokenAt, word_of}
 use Rattle.dial9_trace_format.specs.Decoding.{StartsWith}
-use Rattle.trace_recordings.specs.Playing.{Defined, Playing, TurnsEach, entry_of, start, under}
-use Rattle.trace_recordings.specs.Samples.{place_of}
-use Rattle.trace_recordings.specs.Tallies.{counted_on}
+use Rattle.trace_recordings.specs.Playing.{Defined, Playing, TurnsEach, defined_entry, start, under}
+use Rattle.trace_recordings.specs.Samples.{sample_index}
+use Rattle.trace_recordings.specs.Tallies.{counted_up}
 
 -- the call makes a type that is none of the samples
 abbrev pub misses : Call → Bool
-misses (DefineType handle slot definition) = is_none (place_of slot (entry_of definition))
+misses (DefineType handle slot definition) = is_none (sample_index slot (defined_entry definition))
 misses call = false
 
 -- the call can be played
@@ -29,7 +29,7 @@ pub record FirstMissing (calls : List Call) (line : ℕ) (word : List ℕ) : Typ
   pub parts : calls ≡ before ++ call ∷ after
   pub had : AllByRecursion IsHad before
   pub missing : misses call ≡ true
-  pub counts : line ≡ counted_on (length before) 1
+  pub counts : line ≡ counted_up (length before) 1
   pub word_is : word ≡ word_of call
 
 -- the call of the line cannot be played, or memory was wanting
@@ -57,24 +57,24 @@ WritesTyped (WriteTyped handle time values) = ⊤
 WritesTyped call = ⊥
 
 -- Every call can be played; those before a line were made, and of that of the line this is true.
-pub record StopsAt (calls : List Call) (line : ℕ) (why : Playing → Call → Type 0) : Type 0 where
+pub record StopsAtLine (calls : List Call) (line : ℕ) (why : Playing → Call → Type 0) : Type 0 where
   pub before : List Call
   pub call : Call
   pub after : List Call
   pub parts : calls ≡ before ++ call ∷ after
   pub had : AllByRecursion IsHad calls
-  pub counts : line ≡ counted_on (length before) 1
+  pub counts : line ≡ counted_up (length before) 1
   pub reached : Playing
   pub turns : TurnsEach start before reached
   pub is_so : why reached call
 
 -- the call of the line names what it writes by a handle that stands for nothing of the kind
 abbrev pub NamesUnknown : List Call → ℕ → ℕ → Type 0
-NamesUnknown calls line handle = StopsAt calls line (λ p call. NamesNone p.defined call handle)
+NamesUnknown calls line handle = StopsAtLine calls line (λ p call. NamesNone p.defined call handle)
 
 -- the call of the line writes an event of a type, whose values were not taken
 abbrev pub NamesUnheld : List Call → ℕ → Type 0
-NamesUnheld calls line = StopsAt calls line (λ p call. WritesTyped call)
+NamesUnheld calls line = StopsAtLine calls line (λ p call. WritesTyped call)
 
 -- no header stands at the front
 abbrev pub IsHeadless : List ℕ → Type 0
@@ -99,7 +99,7 @@ IsUnheld line error = ⊥
 
 -- no sample type is so defined, or memory was wanting
 abbrev pub LacksType : ℕ → ℕ → Definition → PlayError → Type 0
-LacksType line slot definition (plays.LeftOut other word) = is_none (place_of slot (entry_of definition)) ≡ true
+LacksType line slot definition (plays.LeftOut other word) = is_none (sample_index slot (defined_entry definition)) ≡ true
 LacksType line slot definition plays.Memory = ⊤
 LacksType line slot definition error = ⊥
 
@@ -126,10 +126,10 @@ RefusesCall p line call error = RefusesUnder p.defined line call error
 -- why a script was not played: a line cannot be read; it is read whole, and makes a type that is none of the samples, or names a handle
 -- that nothing has, or writes an event of a type whose values were not taken, or goes on after an output without a header; want of
 -- memory, or no encoder
-abbrev pub Refuses : List ℕ → PlayError → Type 0
-Refuses text (plays.Script error) = IsBrokenAt text error
-Refuses text (plays.LeftOut line word) = (calls : List Call) × IsScript calls text × FirstMissing calls line word.now
-Refuses text (plays.Unknown line handle) = (calls : List Call) × IsScript calls text × NamesUnknown calls line handle
-Refuses text (plays.Unheld line) = (calls : List Call) × IsScript calls text × NamesUnheld calls line
-Refuses text (plays.Headless line) = (calls : List Call) × IsScript calls text × StopsAt calls line ResumesHeadless
-Refuses text error = ⊤
+abbrev pub RefusesScript : List ℕ → PlayError → Type 0
+RefusesScript text (plays.Script error) = IsBrokenAt text error
+RefusesScript text (plays.LeftOut line word) = (calls : List Call) × IsScript calls text × FirstMissing calls line word.now
+RefusesScript text (plays.Unknown line handle) = (calls : List Call) × IsScript calls text × NamesUnknown calls line handle
+RefusesScript text (plays.Unheld line) = (calls : List Call) × IsScript calls text × NamesUnheld calls line
+RefusesScript text (plays.Headless line) = (calls : List Call) × IsScript calls text × StopsAtLine calls line ResumesHeadless
+RefusesScript text error = ⊤

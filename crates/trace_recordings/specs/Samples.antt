@@ -37,8 +37,8 @@ abbrev pub entry_in : Sample → Entry
 entry_in FastSlot = entries.fast_slot
 entry_in Poll = entries.poll
 entry_in Texts = entries.texts_entry
-entry_in Stacks = entries.stacks
-entry_in Annotated = entries.annotated
+entry_in Stacks = entries.stacks_entry
+entry_in Annotated = entries.annotated_entry
 entry_in LastSlot = entries.last_slot
 entry_in ByName = entries.other
 entry_in Dynamic = entries.dynamic
@@ -47,9 +47,9 @@ entry_in PollNoted = entries.poll_noted
 entry_in SlotClash = entries.other
 entry_in AlsoByName = entries.also
 entry_in Nameless = entries.nameless
-entry_in Borrowed = entries.borrowed
-entry_in Numbers = entries.numbers
-entry_in Options = entries.options
+entry_in Borrowed = entries.borrowed_entry
+entry_in Numbers = entries.numbers_entry
+entry_in Options = entries.options_entry
 entry_in Wide = entries.wide
 
 abbrev pub samples : List Sample
@@ -60,8 +60,8 @@ abbrev pub is_sample : ℕ → Entry → Sample → Bool
 is_sample slot entry sample = (slot == slot_of sample) && same_entry entry (entry_in sample)
 
 -- the index of the first that has them
-abbrev pub place_of : ℕ → Entry → Option ℕ
-place_of slot entry = position (is_sample slot entry) samples
+abbrev pub sample_index : ℕ → Entry → Option ℕ
+sample_index slot entry = position (is_sample slot entry) samples
 
 -- an encoder over a list of bytes gives this answer where an event of the slot and the schema is written
 abbrev pub WritesEvent : ℕ → Entry → (time : ℕ) → List Value → EncoderView (Vec ℕ Global) → EncoderView (Vec ℕ Global) → Reply → Type 0

@@ -10,7 +10,7 @@ use Rattle.trace_recordings.specs.declared.script.call.Call.TheVariants.{Nothing
 use Rattle.trace_recordings.specs.declared.script.ScriptError.{ScriptError}
 use Rattle.trace_recordings.specs.declared.script.fault.Fault.TheVariants.{Memory}
 use Rattle.trace_recordings.specs.Definitions.{definition_text}
-use Rattle.trace_recordings.specs.Tallies.{counted_on}
+use Rattle.trace_recordings.specs.Tallies.{counted_up}
 use Rattle.trace_recordings.specs.Pools.{pool_text_text, pool_stack_text}
 
 -- an event: a handle, a time, and each value
@@ -103,7 +103,7 @@ pub record IsBrokenAt (text : List ℕ) (error : ScriptError) : Type 0 where
   pub after : List (List ℕ)
   pub parts : lines_of text ≡ before ++ broken ∷ after
   pub unsaid : error.fault ≢ Memory → SaysNoWord broken
-  pub counts : error.line ≡ counted_on (length before) 1
+  pub counts : error.line ≡ counted_up (length before) 1
 
 -- the last byte of the line is a carriage return
 abbrev pub EndsWithReturn : List ℕ → Type 0

@@ -9,11 +9,11 @@ use Rattle.dial9_trace_format.specs.ShownEvents.{ShownEvent}
 use Rattle.dial9_trace_format.specs.Sinks.{events_of}
 use Rattle.trace_lines.specs.Lines.{line}
 use Rattle.trace_recordings.specs.declared.sink.Counter.{Counter}
-use Rattle.trace_recordings.specs.Tallies.{counted_on}
+use Rattle.trace_recordings.specs.Tallies.{counted_up}
 
 -- one more event was counted
 abbrev pub counts : Counter → ShownEvent → Counter → Type 0
-counts s e t = t.events ≡ counted_on s.events 1
+counts s e t = t.events ≡ counted_up s.events 1
 
 -- the place where the longest run over an input of a size ends before the rest, told by the bytes before it: before the rest, or
 -- after the schema that differs from what its wire id stands for
@@ -45,7 +45,7 @@ pub record IsStreamSink (input : List ℕ) (text : List ℕ) : Type 0 where
   pub ends : EndsAt input frames end place
   pub told : List ℕ
   pub whole : end ≡ Whole → told ≡ codes "ok"
-  pub text_is : text ≡ sink_text (counted_on 0 (length (events_of empty no_pools frames))) told place
+  pub text_is : text ≡ sink_text (counted_up 0 (length (events_of empty no_pools frames))) told place
 
 -- the line where no header stands
 pub record IsNoSink (input : List ℕ) (text : List ℕ) : Type 0 where

@@ -2,23 +2,23 @@
 use Rattle.std.specs.Prelude.{ℕ, ◌+◌, ◌-◌, ◌^◌, Bool, List, [], ◌∷◌, length, map, min, nat_eq, if◌then◌else◌}
 use Rattle.std.specs.Cmp.Lexicographic.{pointwise}
 use Rattle.trace_recordings.specs.declared.findings.Findings.{Findings}
-use Rattle.trace_recordings.specs.declared.findings.Outcome.{Outcome}
-use Rattle.trace_recordings.specs.declared.findings.Outcome.TheVariants.{Absent, LeftOut, Compared}
+use Rattle.trace_recordings.specs.declared.findings.PartOutcome.{PartOutcome}
+use Rattle.trace_recordings.specs.declared.findings.PartOutcome.TheVariants.{Absent, LeftOut, Compared}
 use Rattle.trace_recordings.specs.declared.tally.Parts.{Parts}
 use Rattle.trace_recordings.specs.declared.tally.LeftOut as left
 
 -- so many more, up to the greatest number of 64 bits
-abbrev pub counted_on : ℕ → ℕ → ℕ
-counted_on n more = min (n + more) (2 ^ 64 - 1)
+abbrev pub counted_up : ℕ → ℕ → ℕ
+counted_up n more = min (n + more) (2 ^ 64 - 1)
 
 -- names, and how often each was left out
 abbrev pub Counts : Type 0
 Counts = List (List ℕ × ℕ)
 
 -- one more of a name; a new one comes last
-abbrev pub with_name : List ℕ → Counts → Counts
-with_name name [] = (name, 1) ∷ []
-with_name name (c ∷ counts) = if pointwise nat_eq c.0 name then (c.0, counted_on c.1 1) ∷ counts else c ∷ with_name name counts
+abbrev pub one_more_of : List ℕ → Counts → Counts
+one_more_of name [] = (name, 1) ∷ []
+one_more_of name (c ∷ counts) = if pointwise nat_eq c.0 name then (c.0, counted_up c.1 1) ∷ counts else c ∷ one_more_of name counts
 
 abbrev pub is_named : List ℕ → left.LeftOut → Bool
 is_named name l = pointwise nat_eq l.name.now name
@@ -39,10 +39,10 @@ abbrev pub seen_in : Parts → Seen
 seen_in p = record { compared = p.compared; differences = p.differences; left_out = counts_of p.left_out.items }
 
 -- with one more outcome
-abbrev pub with_outcome : Outcome → Seen → Seen
+abbrev pub with_outcome : PartOutcome → Seen → Seen
 with_outcome Absent s = s
-with_outcome (LeftOut name) s = record s { left_out = with_name name.now s.left_out }
-with_outcome (Compared notes) s = record s { compared = counted_on s.compared 1; differences = counted_on s.differences (length notes.items) }
+with_outcome (LeftOut name) s = record s { left_out = one_more_of name.now s.left_out }
+with_outcome (Compared notes) s = record s { compared = counted_up s.compared 1; differences = counted_up s.differences (length notes.items) }
 
 -- with what became of the other readings
 abbrev pub with_readings : Findings → Seen → Seen

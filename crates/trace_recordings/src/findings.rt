@@ -17,7 +17,7 @@ const SINK_NAME: &str = "what a sink is given";
 
 /// What became of a part of a recording.
 #[derive(Drop)]
-pub enum Outcome {
+pub enum PartOutcome {
     /// The recording has no such part.
     Absent,
     /// The library has nothing for what is named.
@@ -29,14 +29,14 @@ pub enum Outcome {
 /// What a recording shows.
 #[derive(Drop)]
 pub struct Findings {
-    pub script: Outcome,
-    pub dump: Outcome,
+    pub script: PartOutcome,
+    pub dump: PartOutcome,
     /// The dump of the borrowed reader.
-    pub borrowed: Outcome,
+    pub borrowed: PartOutcome,
     /// The dump with resolved events.
-    pub resolved: Outcome,
+    pub resolved: PartOutcome,
     /// What a sink is given.
-    pub sink: Outcome,
+    pub sink: PartOutcome,
 }
 
 /// Plays the script of a recording, dumps its trace, by each reader and with resolved events, and shows its events to a sink, and compares
@@ -69,11 +69,11 @@ fn unread_findings(alloc: Global, error: &FromHexError) -> Result<Findings, Allo
 {
     let note = format!(in alloc; "the recorded bytes cannot be read: {error}")?;
     Ok(Findings {
-        script: Outcome::Absent,
-        dump: Outcome::Compared(vec![in alloc; note]?),
-        borrowed: Outcome::Absent,
-        resolved: Outcome::Absent,
-        sink: Outcome::Absent,
+        script: PartOutcome::Absent,
+        dump: PartOutcome::Compared(vec![in alloc; note]?),
+        borrowed: PartOutcome::Absent,
+        resolved: PartOutcome::Absent,
+        sink: PartOutcome::Absent,
     })
 }
 
@@ -83,21 +83,21 @@ fn script_outcome(
     alloc: Global,
     calls: Option<Calls<'_>>,
     trace: &[u8],
-) -> Result<Outcome, AllocError>
+) -> Result<PartOutcome, AllocError>
     ensures { IfOk result (ShowsScript trace.now calls.entry) }
 {
     let Some(calls) = calls else {
-        return Ok(Outcome::Absent);
+        return Ok(PartOutcome::Absent);
     };
     match play(alloc, calls.script.as_bytes()) {
         Ok(played) => {
             let notes = played_differences(alloc, calls.replies, trace, &played)?;
-            Ok(Outcome::Compared(notes))
+            Ok(PartOutcome::Compared(notes))
         }
-        Err(PlayError::LeftOut { call, .. }) => Ok(Outcome::LeftOut(call)),
+        Err(PlayError::LeftOut { call, .. }) => Ok(PartOutcome::LeftOut(call)),
         Err(error) if error.is_of_script() => {
             let note = format!(in alloc; "the script was not played: {error}")?;
-            Ok(Outcome::Compared(vec![in alloc; note]?))
+            Ok(PartOutcome::Compared(vec![in alloc; note]?))
         }
         Err(_) => Err(AllocError),
     }
@@ -128,7 +128,7 @@ fn borrowed_outcome(
     lines: &str,
     readings: Option<Readings<'_>>,
     trace: &[u8],
-) -> Result<Outcome, AllocError>
+) -> Result<PartOutcome, AllocError>
     ensures { IfOk result (ShowsBorrowed trace.now lines.now readings.entry) }
 {
     match readings {
@@ -136,7 +136,7 @@ fn borrowed_outcome(
             let lines = readings.borrowed.unwrap_or(lines);
             dump_outcome(alloc, lines, trace, Form::Frames(Reader::Borrowed))
         }
-        None => Ok(Outcome::Absent),
+        None => Ok(PartOutcome::Absent),
     }
 }
 
@@ -145,12 +145,12 @@ fn resolved_outcome(
     alloc: Global,
     readings: Option<Readings<'_>>,
     trace: &[u8],
-) -> Result<Outcome, AllocError>
+) -> Result<PartOutcome, AllocError>
     ensures { IfOk result (ShowsResolved trace.now readings.entry) }
 {
     match readings {
         Some(readings) => dump_outcome(alloc, readings.resolved, trace, Form::Events),
-        None => Ok(Outcome::Absent),
+        None => Ok(PartOutcome::Absent),
     }
 }
 
@@ -159,19 +159,24 @@ fn sink_outcome(
     alloc: Global,
     readings: Option<Readings<'_>>,
     trace: &[u8],
-) -> Result<Outcome, AllocError>
+) -> Result<PartOutcome, AllocError>
     ensures { IfOk result (ShowsSink trace.now readings.entry) }
 {
     let Some(readings) = readings else {
-        return Ok(Outcome::Absent);
+        return Ok(PartOutcome::Absent);
     };
     let found = sink_lines(alloc, trace)?;
     let notes = text_differences(alloc, SINK_NAME, readings.sink, found.as_bytes())?;
-    Ok(Outcome::Compared(notes))
+    Ok(PartOutcome::Compared(notes))
 }
 
 // Dumps a trace, and compares the lines, whose last one tells the status. A vector as a writer wants nothing but memory.
-fn dump_outcome(alloc: Global, lines: &str, trace: &[u8], form: Form) -> Result<Outcome, AllocError>
+fn dump_outcome(
+    alloc: Global,
+    lines: &str,
+    trace: &[u8],
+    form: Form,
+) -> Result<PartOutcome, AllocError>
     ensures { IfOk result (ShowsDump form trace.now lines.now) }
 {
     let mut found = Vec::new(alloc);
@@ -179,7 +184,7 @@ fn dump_outcome(alloc: Global, lines: &str, trace: &[u8], form: Form) -> Result<
         return Err(AllocError);
     }
     let notes = text_differences(alloc, dump_name(form), lines, &found)?;
-    Ok(Outcome::Compared(notes))
+    Ok(PartOutcome::Compared(notes))
 }
 
 // By what name to speak of a dump.

@@ -5,9 +5,9 @@ ghost use Rattle.std.specs.List.{AllByRecursion};
 ghost use Rattle.trace_wire.specs.PoolEntries.{string_entries_of, stack_entries_of};
 ghost use Rattle.trace_writer.specs.Calls.{reply_from};
 ghost use Rattle.trace_recordings.specs.declared.player.PlayError.TheVariants as errors;
-ghost use Rattle.trace_recordings.specs.Playing.{AnswersResumption, DefinesType, IsOfScript, IsPlayed, Asks, DoesCall, Resets, Resumes, Turns, answer_text, asks, defined_in, entry_of, under, pool_stack_of, pool_text_of, playing_of, refusal_text, reply_line, start, with_reply, with_schema};
-ghost use Rattle.trace_recordings.specs.Samples.{is_sample, place_of};
-ghost use Rattle.trace_recordings.specs.Refusals.{IsHad, IsOfPlayer, IsUnheld, LacksHeader, LacksType, LeavesOut, MissesAt, Refuses, RefusesCall, RefusesUnder, misses};
+ghost use Rattle.trace_recordings.specs.Playing.{AnswersResumption, DefinesType, IsOfScript, IsPlayed, Asks, DoesCall, Resets, Resumes, Turns, answer_text, asks, defined_in, defined_entry, under, pool_stack_of, pool_text_of, playing_of, refusal_text, reply_line, start, with_reply, with_schema};
+ghost use Rattle.trace_recordings.specs.Samples.{is_sample, sample_index};
+ghost use Rattle.trace_recordings.specs.Refusals.{IsHad, IsOfPlayer, IsUnheld, LacksHeader, LacksType, LeavesOut, MissesAt, RefusesScript, RefusesCall, RefusesUnder, misses};
 
 use crate::script::{Call, Definition, Fault, PoolStack, PoolText, ScriptError, script_of};
 use crate::typed::{Sample, Unheld, sample_in, write_sample};
@@ -93,7 +93,7 @@ impl<T: Drop> From<AllocFailed<T>> for PlayError {
 #[tactic(auto, using(crate::proofs::RefusalLemmas::not_begun, crate::proofs::RefusalLemmas::no_player))]
 pub fn play(alloc: Global, text: &[u8]) -> Result<Played, PlayError>
     ensures played { IfOk result (λ played. IsPlayed text.now played.bytes.items (string_bytes played.replies)) }
-    ensures refused { IfErr result (Refuses text.now) }
+    ensures refused { IfErr result (RefusesScript text.now) }
 {
     let script = script_of(alloc, text)?;
     admit(alloc, &script)?;
@@ -151,8 +151,8 @@ fn sample_of(
     slot: u64,
     definition: &Definition,
 ) -> Result<Option<Sample>, AllocError>
-    ensures found { IfOk result (λ found. IfSome found (λ sample. is_sample slot (entry_of definition.now) sample ≡ true)) }
-    ensures none { IfOk result (λ found. is_none found ≡ is_none (place_of slot (entry_of definition.now))) }
+    ensures found { IfOk result (λ found. IfSome found (λ sample. is_sample slot (defined_entry definition.now) sample ≡ true)) }
+    ensures none { IfOk result (λ found. is_none found ≡ is_none (sample_index slot (defined_entry definition.now))) }
 {
     let schema = schema_of(alloc, definition)?;
     Ok(sample_in(slot, schema.entry()))
@@ -441,7 +441,7 @@ pub fn done(answer: Result<(), EncodeError>) -> Reply
 
 // The schema that a definition says.
 fn schema_of(alloc: Global, definition: &Definition) -> Result<Schema, AllocError>
-    ensures { IfOk result (λ schema. schema ≡ entry_of definition.now) }
+    ensures { IfOk result (λ schema. schema ≡ defined_entry definition.now) }
 {
     let mut annotations = Vec::new(alloc);
     for annotation in &definition.annotations {

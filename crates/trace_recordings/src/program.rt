@@ -4,7 +4,7 @@ ghost use Rattle.std.specs.Prelude.{◌≡◌, ◌≤◌, IfOk, string_bytes};
 ghost use Rattle.std.specs.Process.{exit_status};
 ghost use Rattle.trace_recordings.specs.Program.{AsksFor, Answers, status_with};
 
-use crate::findings::{Findings, Outcome, findings_of};
+use crate::findings::{Findings, PartOutcome, findings_of};
 use crate::player::{PlayError, Played, play};
 use crate::recording::recordings_of;
 use crate::tally::Tally;
@@ -137,8 +137,13 @@ fn print_findings(rt: &impl Print, set: &str, name: &str, findings: &Findings) -
 }
 
 // Prints each difference in a part of a recording.
-fn print_differences(rt: &impl Print, set: &str, name: &str, outcome: &Outcome) -> io::Result<()> {
-    if let Outcome::Compared(differences) = outcome {
+fn print_differences(
+    rt: &impl Print,
+    set: &str,
+    name: &str,
+    outcome: &PartOutcome,
+) -> io::Result<()> {
+    if let PartOutcome::Compared(differences) = outcome {
         for difference in differences {
             println!(rt; "{set} {name}: {difference}")?;
         }

@@ -113,9 +113,9 @@ fn recording_of(lines: &str) -> Option<Recording<'_>>
     ensures { IfSome result (λ r. lines.now ≡ recording_lines r) }
 {
     let named = lines.strip_prefix("== ")?;
-    let (front, behind) = named.split_once("\n# dump\n")?;
+    let (front, after_mark) = named.split_once("\n# dump\n")?;
     let (name, calls, bytes) = making_of(front)?;
-    let (dump, readings) = dump_of(behind)?;
+    let (dump, readings) = dump_of(after_mark)?;
     Some(Recording {
         name,
         calls,

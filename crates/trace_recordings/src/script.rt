@@ -3,7 +3,7 @@
 ghost use Rattle.std.specs.Prelude.{◌≡◌, ◌≢◌, ◌<◌, length, IfErr, IfOk, IfSome, OnOk};
 ghost use Rattle.std.specs.Option.{option_copied};
 ghost use Rattle.trace_recordings.specs.Scripts.{IsScript, IsBrokenAt, IsFirstLine, GainsCall, EndsWithReturn, SaysNoWord};
-ghost use Rattle.trace_recordings.specs.Tallies.{counted_on};
+ghost use Rattle.trace_recordings.specs.Tallies.{counted_up};
 ghost use Rattle.trace_recordings.specs.declared.script.fault.Fault.TheVariants.{CarriageReturn, Memory};
 
 mod call;
@@ -65,7 +65,7 @@ fn first_line(text: &[u8]) -> (&[u8], Option<&[u8]>)
 // Appends what a line asks for.
 fn push_call(alloc: Global, calls: &mut Vec<Call>, line: &[u8]) -> Result<(), ScriptError>
     ensures gains { OnOk result (GainsCall calls.old.items calls.new.items line.now) }
-    ensures counts { IfErr result (λ error. error.line ≡ counted_on (length calls.old.items) 1) }
+    ensures counts { IfErr result (λ error. error.line ≡ counted_up (length calls.old.items) 1) }
     ensures unsaid { IfErr result (λ error. error.fault ≢ Memory → SaysNoWord line.now) }
 {
     let before = calls.len();
@@ -80,7 +80,7 @@ fn push_call(alloc: Global, calls: &mut Vec<Call>, line: &[u8]) -> Result<(), Sc
 
 // A fault in the line after this many.
 fn fault_at(before: usize, fault: Fault) -> ScriptError
-    ensures line { result.line ≡ counted_on before 1 }
+    ensures line { result.line ≡ counted_up before 1 }
     ensures fault { result.fault ≡ fault }
 {
     ScriptError {

@@ -1,9 +1,9 @@
 //! Counts of what was compared.
 
 ghost use Rattle.std.specs.Prelude.{◌≡◌, ◌<◌, ◌↔◌, ◌⊎◌, position, IsTrue, OnOk};
-ghost use Rattle.trace_recordings.specs.Tallies.{counted_on, counts_of, is_named, nothing_seen, seen_in, with_name, with_outcome, with_readings};
+ghost use Rattle.trace_recordings.specs.Tallies.{counted_up, counts_of, is_named, nothing_seen, seen_in, one_more_of, with_outcome, with_readings};
 
-use crate::findings::{Findings, Outcome};
+use crate::findings::{Findings, PartOutcome};
 use std::alloc::{AllocError, Global};
 use std::fmt;
 
@@ -49,7 +49,7 @@ impl Tally {
 
     /// Counts a recording.
     pub fn add(&mut self, findings: &Findings) -> Result<(), AllocError>
-        ensures recordings { OnOk result (self.new.recordings ≡ counted_on self.old.recordings 1) }
+        ensures recordings { OnOk result (self.new.recordings ≡ counted_up self.old.recordings 1) }
         ensures scripts { OnOk result (seen_in self.new.scripts ≡ with_outcome findings.now.script (seen_in self.old.scripts)) }
         ensures dumps { OnOk result (seen_in self.new.dumps ≡ with_outcome findings.now.dump (seen_in self.old.dumps)) }
         ensures readings { OnOk result (seen_in self.new.readings ≡ with_readings findings.now (seen_in self.old.readings)) }
@@ -82,13 +82,13 @@ impl Parts {
         }
     }
 
-    fn add(&mut self, outcome: &Outcome) -> Result<(), AllocError>
+    fn add(&mut self, outcome: &PartOutcome) -> Result<(), AllocError>
         ensures { OnOk result (seen_in self.new ≡ with_outcome outcome.now (seen_in self.old)) }
     {
         match outcome {
-            Outcome::Absent => {}
-            Outcome::LeftOut(name) => leave_out(&mut self.left_out, name)?,
-            Outcome::Compared(differences) => {
+            PartOutcome::Absent => {}
+            PartOutcome::LeftOut(name) => leave_out(&mut self.left_out, name)?,
+            PartOutcome::Compared(differences) => {
                 self.compared = self.compared.saturating_add(1);
                 self.differences = self.differences.saturating_add(differences.len() as u64);
             }
@@ -99,11 +99,11 @@ impl Parts {
 
 // Counts one more that was left out.
 fn leave_out(left_out: &mut Vec<LeftOut>, name: &'static str) -> Result<(), AllocError>
-    ensures { OnOk result (counts_of left_out.new.items ≡ with_name name.now (counts_of left_out.old.items)) }
+    ensures { OnOk result (counts_of left_out.new.items ≡ one_more_of name.now (counts_of left_out.old.items)) }
 {
-    match place_of(left_out, name) {
-        Some(place) => {
-            let known = &mut left_out[place];
+    match left_out_index(left_out, name) {
+        Some(index) => {
+            let known = &mut left_out[index];
             known.count = known.count.saturating_add(1);
         }
         None => left_out.push(LeftOut { name, count: 1 })?,
@@ -112,7 +112,7 @@ fn leave_out(left_out: &mut Vec<LeftOut>, name: &'static str) -> Result<(), Allo
 }
 
 // The first index of a name.
-fn place_of(left_out: &[LeftOut], name: &str) -> Option<usize>
+fn left_out_index(left_out: &[LeftOut], name: &str) -> Option<usize>
     ensures { result ≡ position (is_named name.now) left_out.now }
 {
     left_out.iter().position(|known| known.name == name)

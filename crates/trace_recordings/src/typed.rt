@@ -3,7 +3,7 @@
 ghost use Rattle.std.specs.Prelude.{◌≡◌, ◌==◌, ◌&&◌, true, IfOk, IfSome, is_none};
 ghost use Rattle.trace_values.specs.View.{views};
 ghost use Rattle.trace_wire.specs.Schemas.{same_entry};
-ghost use Rattle.trace_recordings.specs.Samples.{WritesEvent, entry_in, is_sample, place_of, slot_of};
+ghost use Rattle.trace_recordings.specs.Samples.{WritesEvent, entry_in, is_sample, sample_index, slot_of};
 ghost use Rattle.trace_recordings.specs.declared.typed.Unheld.TheVariants.{Memory};
 
 mod events;
@@ -92,15 +92,15 @@ impl<T: Drop> From<AllocFailed<T>> for Unheld {
 /// The sample type that has this slot and this schema.
 pub fn sample_in(slot: u64, entry: &SchemaEntry) -> Option<Sample>
     ensures found { IfSome result (λ sample. is_sample slot entry.now sample ≡ true) }
-    ensures none { is_none result ≡ is_none (place_of slot entry.now) }
+    ensures none { is_none result ≡ is_none (sample_index slot entry.now) }
 {
-    let place = place_in(slot, entry)?;
-    Some(SAMPLES[place])
+    let index = index_in(slot, entry)?;
+    Some(SAMPLES[index])
 }
 
 // The index among the samples of the one that has this slot and this schema.
-fn place_in(slot: u64, entry: &SchemaEntry) -> Option<usize>
-    ensures { result ≡ place_of slot entry.now }
+fn index_in(slot: u64, entry: &SchemaEntry) -> Option<usize>
+    ensures { result ≡ sample_index slot entry.now }
 {
     SAMPLES
         .iter()

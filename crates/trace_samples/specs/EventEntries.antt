@@ -32,8 +32,8 @@ other = entry (codes "Other") []
 abbrev pub last_slot : Entry
 last_slot = entry (codes "LastSlot") (field (codes "number") types.U16 ∷ [])
 
-abbrev pub annotated : Entry
-annotated = record {
+abbrev pub annotated_entry : Entry
+annotated_entry = record {
   name = codes "Annotated";
   fields = field (codes "load") types.U8 ∷ [];
   annotations = note 0 (codes "unit") (codes "ns")
@@ -65,12 +65,12 @@ abbrev pub texts_entry : Entry
 texts_entry = entry (codes "Texts") (field (codes "text") types.String ∷ field (codes "blob") types.Bytes
     ∷ field (codes "pairs") types.StringMap ∷ [])
 
-abbrev pub borrowed : Entry
-borrowed = entry (codes "Borrowed") (field (codes "path") types.String ∷ field (codes "body") types.Bytes
+abbrev pub borrowed_entry : Entry
+borrowed_entry = entry (codes "Borrowed") (field (codes "path") types.String ∷ field (codes "body") types.Bytes
     ∷ field (codes "note") types.OptionalString ∷ field (codes "rest") types.OptionalBytes ∷ [])
 
-abbrev pub stacks : Entry
-stacks = entry (codes "Stacks") (field (codes "frames") types.StackFrames ∷ field (codes "stack") types.PooledStackFrames ∷ [])
+abbrev pub stacks_entry : Entry
+stacks_entry = entry (codes "Stacks") (field (codes "frames") types.StackFrames ∷ field (codes "stack") types.PooledStackFrames ∷ [])
 
 abbrev pub dynamic : Entry
 dynamic = entry (codes "Dynamic") (field (codes "items") types.DynamicList ∷ field (codes "table") types.DynamicMap ∷ [])
@@ -85,8 +85,8 @@ numbers_fields_3 = field (codes "long") types.Varint ∷ field (codes "signed") 
 abbrev pub numbers_fields : List Field
 numbers_fields = field (codes "byte") types.U8 ∷ field (codes "short") types.U16 ∷ field (codes "word") types.U32 ∷ numbers_fields_3
 
-abbrev pub numbers : Entry
-numbers = entry (codes "Numbers") numbers_fields
+abbrev pub numbers_entry : Entry
+numbers_entry = entry (codes "Numbers") numbers_fields
 
 -- the fields of `Options`, and those from one on
 abbrev pub options_fields_12 : List Field
@@ -108,8 +108,8 @@ abbrev pub options_fields : List Field
 options_fields = field (codes "byte") types.OptionalU8 ∷ field (codes "short") types.OptionalU16 ∷ field (codes "word") types.OptionalU32
     ∷ options_fields_3
 
-abbrev pub options : Entry
-options = entry (codes "Options") options_fields
+abbrev pub options_entry : Entry
+options_entry = entry (codes "Options") options_fields
 
 -- the fields of `Wide`, and those from one on
 abbrev pub wide_fields_18 : List Field

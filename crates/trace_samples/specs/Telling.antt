@@ -23,8 +23,8 @@ abbrev pub all_told : Teller → Account
 all_told t = record { bytes = Some t.bytes; faults = Some t.faults; waiting = Some t.waiting }
 
 -- it accepted nothing, and is settled
-abbrev pub unused : Script → Teller
-unused script = record { bytes = []; faults = NoFault; waiting = []; script = script }
+abbrev pub new_teller : Script → Teller
+new_teller script = record { bytes = []; faults = NoFault; waiting = []; script = script }
 
 -- how many bytes of a piece of this size it accepts next
 abbrev pub next_count : Teller → ℕ → ℕ

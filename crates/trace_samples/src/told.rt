@@ -2,7 +2,7 @@
 
 ghost use Rattle.std.specs.Prelude.{◌≡◌, ◌≢◌, ◌≤◌, ◌↔◌, [], IfOk, IsTrue, length};
 ghost use Rattle.trace_values.specs.Sending.{Took, Holds, Settles, taken, send_faults, settle_faults};
-ghost use Rattle.trace_samples.specs.Telling.{all_told, unused, Follows, FollowsSettling, IsRefusal, script_spent};
+ghost use Rattle.trace_samples.specs.Telling.{all_told, new_teller, Follows, FollowsSettling, IsRefusal, script_spent};
 ghost use Rattle.trace_samples.specs.Scripts.{next_refusal};
 
 use crate::script::{ROOM, Refusal, Script};
@@ -76,7 +76,7 @@ impl TraceWrite for Told {
 impl Told {
     /// A writer that has accepted nothing. It is settled.
     pub fn new(script: Script) -> Told
-        ensures { result ≡ unused script }
+        ensures { result ≡ new_teller script }
     {
         Told {
             buffer: [0; ROOM],

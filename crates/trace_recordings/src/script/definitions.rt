@@ -3,10 +3,10 @@
 ghost use Rattle.std.specs.Prelude.{◌≡◌, ◌<◌, ◌++◌, length, IfOk};
 ghost use Rattle.std.specs.List.{flat_map};
 ghost use Rattle.trace_lines.specs.Lines.{field_text};
-ghost use Rattle.trace_recordings.specs.Definitions.{annotation_text, definition_text};
+ghost use Rattle.trace_recordings.specs.Definitions.{annotation_part, definition_text};
 
 use crate::script::fault::Fault;
-use crate::script::parts::{behind, name_at, number_at, type_at};
+use crate::script::parts::{after_mark, name_at, number_at, type_at};
 use std::alloc::Global;
 use trace_wire::schema::FieldDef;
 
@@ -61,16 +61,16 @@ fn field_at(alloc: Global, line: &[u8]) -> Result<(FieldDef, &[u8]), Fault>
     ensures text { IfOk result (λ x. line.now ≡ field_text x.0 ++ x.1.now) }
     ensures shorter { IfOk result (λ x. length x.1.now < length line.now) }
 {
-    let rest = behind(line, b" ").ok_or(Fault::Mark(' '))?;
+    let rest = after_mark(line, b" ").ok_or(Fault::Mark(' '))?;
     let (name, rest) = name_at(alloc, rest)?;
-    let rest = behind(rest, b":").ok_or(Fault::Mark(':'))?;
+    let rest = after_mark(rest, b":").ok_or(Fault::Mark(':'))?;
     let (field_type, rest) = type_at(rest)?;
     Ok((FieldDef::new(alloc, name.as_str(), field_type)?, rest))
 }
 
 // Annotations up to the end of the line.
 fn annotations_of(alloc: Global, line: &[u8]) -> Result<Vec<Annotation>, Fault>
-    ensures { IfOk result (λ v. line.now ≡ flat_map annotation_text v.items) }
+    ensures { IfOk result (λ v. line.now ≡ flat_map annotation_part v.items) }
 {
     let mut annotations = Vec::new(alloc);
     let mut rest = line;
@@ -83,17 +83,17 @@ fn annotations_of(alloc: Global, line: &[u8]) -> Result<Vec<Annotation>, Fault>
 }
 
 // A space, `@`, the index of a field, a colon, a key, an equals sign and a value, and the rest.
-#[tactic(auto, unfolding(crate::specs::Definitions::annotation_text))]
+#[tactic(auto, unfolding(crate::specs::Definitions::annotation_part))]
 fn annotation_at(alloc: Global, line: &[u8]) -> Result<(Annotation, &[u8]), Fault>
-    ensures text { IfOk result (λ x. line.now ≡ annotation_text x.0 ++ x.1.now) }
+    ensures text { IfOk result (λ x. line.now ≡ annotation_part x.0 ++ x.1.now) }
     ensures shorter { IfOk result (λ x. length x.1.now < length line.now) }
 {
-    let rest = behind(line, b" @").ok_or(Fault::Mark('@'))?;
+    let rest = after_mark(line, b" @").ok_or(Fault::Mark('@'))?;
     let (index, rest) = number_at(alloc, rest)?;
     let index = u16::try_from(index).map_err(|_| Fault::TooLarge)?;
-    let rest = behind(rest, b":").ok_or(Fault::Mark(':'))?;
+    let rest = after_mark(rest, b":").ok_or(Fault::Mark(':'))?;
     let (key, rest) = name_at(alloc, rest)?;
-    let rest = behind(rest, b"=").ok_or(Fault::Mark('='))?;
+    let rest = after_mark(rest, b"=").ok_or(Fault::Mark('='))?;
     let (value, rest) = name_at(alloc, rest)?;
     Ok((Annotation { index, key, value }, rest))
 }

@@ -9,7 +9,7 @@ ghost use Rattle.trace_recordings.specs.Scripts.{event_text, AreDigitsOf, IsPair
 use crate::script::call::Call;
 use crate::script::definitions::definition_of;
 use crate::script::fault::Fault;
-use crate::script::parts::{addresses_at, behind, name_at, number_at, value_at};
+use crate::script::parts::{addresses_at, after_mark, name_at, number_at, value_at};
 use crate::script::pools::{pool_stacks, pool_texts};
 use hex::FromHex;
 use std::alloc::Global;
@@ -45,15 +45,15 @@ fn word_of(line: &[u8]) -> Option<Call>
 fn parts_of(alloc: Global, line: &[u8]) -> Result<Call, Fault>
     ensures { IfOk result (λ call. Says call line.now) }
 {
-    if let Some(rest) = behind(line, b"define ") {
+    if let Some(rest) = after_mark(line, b"define ") {
         return define(alloc, rest);
     }
-    if let Some(rest) = behind(line, b"register ") {
+    if let Some(rest) = after_mark(line, b"register ") {
         let (handle, rest) = number_at(alloc, rest)?;
         ended(rest)?;
         return Ok(Call::Register { handle });
     }
-    if let Some(rest) = behind(line, b"event ") {
+    if let Some(rest) = after_mark(line, b"event ") {
         let (handle, time, values) = event(alloc, rest)?;
         return Ok(Call::Event {
             handle,
@@ -61,10 +61,10 @@ fn parts_of(alloc: Global, line: &[u8]) -> Result<Call, Fault>
             values,
         });
     }
-    if let Some(rest) = behind(line, b"type ") {
+    if let Some(rest) = after_mark(line, b"type ") {
         return event_type(alloc, rest);
     }
-    if let Some(rest) = behind(line, b"write ") {
+    if let Some(rest) = after_mark(line, b"write ") {
         let (handle, time, values) = event(alloc, rest)?;
         return Ok(Call::WriteTyped {
             handle,
@@ -72,25 +72,25 @@ fn parts_of(alloc: Global, line: &[u8]) -> Result<Call, Fault>
             values,
         });
     }
-    if let Some(rest) = behind(line, b"string ") {
+    if let Some(rest) = after_mark(line, b"string ") {
         let (text, rest) = name_at(alloc, rest)?;
         ended(rest)?;
         return Ok(Call::InternString { text });
     }
-    if let Some(rest) = behind(line, b"stack ") {
+    if let Some(rest) = after_mark(line, b"stack ") {
         let (frames, rest) = addresses_at(alloc, rest)?;
         ended(rest)?;
         return Ok(Call::InternStack { frames });
     }
-    if let Some(rest) = behind(line, b"strings") {
+    if let Some(rest) = after_mark(line, b"strings") {
         let entries = pool_texts(alloc, rest)?;
         return Ok(Call::StringPool { entries });
     }
-    if let Some(rest) = behind(line, b"stacks") {
+    if let Some(rest) = after_mark(line, b"stacks") {
         let entries = pool_stacks(alloc, rest)?;
         return Ok(Call::StackPool { entries });
     }
-    if let Some(rest) = behind(line, b"raw ") {
+    if let Some(rest) = after_mark(line, b"raw ") {
         let bytes = hex_bytes(alloc, rest)?;
         return Ok(Call::Raw { bytes });
     }
@@ -184,7 +184,7 @@ fn pair_at(text: &[u8]) -> Option<(u8, &[u8])>
 fn space(line: &[u8]) -> Result<&[u8], Fault>
     ensures { IfOk result (λ rest. line.now ≡ codes " " ++ rest.now) }
 {
-    behind(line, b" ").ok_or(Fault::Mark(' '))
+    after_mark(line, b" ").ok_or(Fault::Mark(' '))
 }
 
 // Nothing stands there.

@@ -4,7 +4,7 @@
 ghost use Rattle.std.specs.Prelude.{◌≡◌, ◌-◌, ◌+◌, ◌<◌, ◌≤◌, drop, length, IfOk};
 
 use crate::script::fault::Fault;
-use crate::script::parts::behind;
+use crate::script::parts::after_mark;
 use std::alloc::Global;
 use trace_values::types::{FieldValue, InternedStackFrames, InternedString, StackFrames};
 
@@ -32,7 +32,7 @@ pub fn text(alloc: Global, line: &[u8]) -> Result<(Vec<u8>, &[u8]), Fault>
     ensures { IfOk result (λ x. length x.1.now < length line.now) }
 {
     let mut bytes = Vec::new(alloc);
-    let mut rest = behind(line, b"\"").ok_or(Fault::Text)?;
+    let mut rest = after_mark(line, b"\"").ok_or(Fault::Text)?;
     loop {
         match rest {
             [b'"', after @ ..] => return Ok((bytes, after)),
@@ -61,12 +61,12 @@ pub fn addresses(alloc: Global, line: &[u8]) -> Result<(Vec<u64>, &[u8]), Fault>
     ensures { IfOk result (λ x. length x.1.now < length line.now) }
 {
     let mut addresses = Vec::new(alloc);
-    let mut rest = behind(line, b"[").ok_or(Fault::Addresses)?;
+    let mut rest = after_mark(line, b"[").ok_or(Fault::Addresses)?;
     if let [b']', after @ ..] = rest {
         return Ok((addresses, after));
     }
     loop {
-        let digits = behind(rest, b"0x").ok_or(Fault::Addresses)?;
+        let digits = after_mark(rest, b"0x").ok_or(Fault::Addresses)?;
         let (address, after) = number(digits, 16);
         addresses.push(address)?;
         match after {
@@ -82,37 +82,37 @@ pub fn addresses(alloc: Global, line: &[u8]) -> Result<(Vec<u64>, &[u8]), Fault>
 pub fn value(alloc: Global, levels: u32, line: &[u8]) -> Result<(FieldValue, &[u8]), Fault>
     ensures { IfOk result (λ x. length x.1.now < length line.now) }
 {
-    if let Some(rest) = behind(line, b"None") {
+    if let Some(rest) = after_mark(line, b"None") {
         return Ok((FieldValue::None, rest));
     }
-    if let Some(rest) = behind(line, b"I64:") {
+    if let Some(rest) = after_mark(line, b"I64:") {
         return Ok(integer(rest));
     }
-    if let Some(rest) = behind(line, b"F64:0x") {
+    if let Some(rest) = after_mark(line, b"F64:0x") {
         let (bits, rest) = number(rest, 16);
         return Ok((FieldValue::F64(bits), rest));
     }
-    if let Some(rest) = behind(line, b"Bool:true") {
+    if let Some(rest) = after_mark(line, b"Bool:true") {
         return Ok((FieldValue::Bool(true), rest));
     }
-    if let Some(rest) = behind(line, b"Bool:false") {
+    if let Some(rest) = after_mark(line, b"Bool:false") {
         return Ok((FieldValue::Bool(false), rest));
     }
-    if let Some(rest) = behind(line, b"String:") {
+    if let Some(rest) = after_mark(line, b"String:") {
         let (bytes, rest) = text(alloc, rest)?;
         let text = String::from_utf8(bytes).map_err(|_| Fault::Utf8)?;
         return Ok((FieldValue::String(text), rest));
     }
-    if let Some(rest) = behind(line, b"Bytes:") {
+    if let Some(rest) = after_mark(line, b"Bytes:") {
         let (bytes, rest) = text(alloc, rest)?;
         return Ok((FieldValue::Bytes(bytes), rest));
     }
-    if let Some(rest) = behind(line, b"PooledString:pool#") {
+    if let Some(rest) = after_mark(line, b"PooledString:pool#") {
         let (id, rest) = number(rest, 10);
         let id = u32::try_from(id).map_err(|_| Fault::TooLarge)?;
         return Ok((FieldValue::PooledString(InternedString::from_raw(id)), rest));
     }
-    if let Some(rest) = behind(line, b"PooledStackFrames:stack#") {
+    if let Some(rest) = after_mark(line, b"PooledStackFrames:stack#") {
         let (id, rest) = number(rest, 10);
         let id = u32::try_from(id).map_err(|_| Fault::TooLarge)?;
         return Ok((
@@ -120,15 +120,15 @@ pub fn value(alloc: Global, levels: u32, line: &[u8]) -> Result<(FieldValue, &[u
             rest,
         ));
     }
-    if let Some(rest) = behind(line, b"StackFrames:") {
+    if let Some(rest) = after_mark(line, b"StackFrames:") {
         let (frames, rest) = addresses(alloc, rest)?;
         return Ok((FieldValue::StackFrames(StackFrames(frames)), rest));
     }
-    if let Some(rest) = behind(line, b"Varint:") {
+    if let Some(rest) = after_mark(line, b"Varint:") {
         let (number, rest) = number(rest, 10);
         return Ok((FieldValue::Varint(number), rest));
     }
-    if let Some(rest) = behind(line, b"StringMap:{") {
+    if let Some(rest) = after_mark(line, b"StringMap:{") {
         let (pairs, rest) = text_pairs(alloc, rest)?;
         return Ok((FieldValue::StringMap(pairs), rest));
     }
@@ -139,7 +139,7 @@ pub fn value(alloc: Global, levels: u32, line: &[u8]) -> Result<(FieldValue, &[u
 fn integer(line: &[u8]) -> (FieldValue, &[u8])
     ensures { length result.1.now ≤ length line.now }
 {
-    match behind(line, b"-") {
+    match after_mark(line, b"-") {
         Some(digits) => {
             let (number, rest) = number(digits, 10);
             (FieldValue::I64(number.wrapping_neg().cast_signed()), rest)
@@ -162,7 +162,7 @@ fn text_pairs(alloc: Global, line: &[u8]) -> Result<(Vec<(Vec<u8>, Vec<u8>)>, &[
     let mut rest = line;
     loop {
         let (key, after) = text(alloc, rest)?;
-        let after = behind(after, b"=").ok_or(Fault::Mark('='))?;
+        let after = after_mark(after, b"=").ok_or(Fault::Mark('='))?;
         let (value, after) = text(alloc, after)?;
         pairs.push((key, value))?;
         match after {
@@ -178,14 +178,14 @@ fn text_pairs(alloc: Global, line: &[u8]) -> Result<(Vec<(Vec<u8>, Vec<u8>)>, &[
 fn inside(alloc: Global, levels: u32, line: &[u8]) -> Result<(FieldValue, &[u8]), Fault>
     ensures { IfOk result (λ x. length x.1.now < length line.now) }
 {
-    if let Some(rest) = behind(line, b"List:[") {
+    if let Some(rest) = after_mark(line, b"List:[") {
         if levels == 0 {
             return Err(Fault::Depth);
         }
         let (items, rest) = items(alloc, levels - 1, rest)?;
         return Ok((FieldValue::List(items), rest));
     }
-    if let Some(rest) = behind(line, b"Map:{") {
+    if let Some(rest) = after_mark(line, b"Map:{") {
         if levels == 0 {
             return Err(Fault::Depth);
         }
@@ -232,7 +232,7 @@ fn pairs(
     let mut rest = line;
     loop {
         let (key, after) = value(alloc, levels, rest)?;
-        let after = behind(after, b"=").ok_or(Fault::Mark('='))?;
+        let after = after_mark(after, b"=").ok_or(Fault::Mark('='))?;
         let (value, after) = value(alloc, levels, after)?;
         pairs.push((key, value))?;
         match after {

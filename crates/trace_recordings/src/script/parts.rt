@@ -16,7 +16,7 @@ use trace_values::types::{FieldType, FieldValue};
 pub const MOST_LEVELS: u32 = 100;
 
 /// What stands after a mark, where the line begins with the mark.
-pub fn behind<'a>(line: &'a [u8], mark: &[u8]) -> Option<&'a [u8]>
+pub fn after_mark<'a>(line: &'a [u8], mark: &[u8]) -> Option<&'a [u8]>
     ensures found { IfSome result (λ rest. line.now ≡ mark.now ++ rest.now) }
     ensures len { IfSome result (λ rest. length rest.now + length mark.now ≡ length line.now) }
 {
@@ -29,7 +29,7 @@ pub fn number_at(alloc: Global, line: &[u8]) -> Result<(u64, &[u8]), Fault>
 {
     let (number, _) = loose::number(line, 10);
     let shown = number.to_string(alloc)?;
-    let rest = behind(line, shown.as_bytes()).ok_or(Fault::Number)?;
+    let rest = after_mark(line, shown.as_bytes()).ok_or(Fault::Number)?;
     Ok((number, rest))
 }
 
@@ -40,7 +40,7 @@ pub fn text_at(alloc: Global, line: &[u8]) -> Result<(Vec<u8>, &[u8]), Fault>
     let (bytes, _) = loose::text(alloc, line)?;
     let mut shown = String::new(alloc);
     push_quoted(&mut shown, &bytes)?;
-    let rest = behind(line, shown.as_bytes()).ok_or(Fault::Text)?;
+    let rest = after_mark(line, shown.as_bytes()).ok_or(Fault::Text)?;
     Ok((bytes, rest))
 }
 
@@ -60,7 +60,7 @@ pub fn addresses_at(alloc: Global, line: &[u8]) -> Result<(Vec<u64>, &[u8]), Fau
     let (addresses, _) = loose::addresses(alloc, line)?;
     let mut shown = String::new(alloc);
     push_addresses(&mut shown, &addresses)?;
-    let rest = behind(line, shown.as_bytes()).ok_or(Fault::Addresses)?;
+    let rest = after_mark(line, shown.as_bytes()).ok_or(Fault::Addresses)?;
     Ok((addresses, rest))
 }
 
@@ -71,7 +71,7 @@ pub fn value_at(alloc: Global, line: &[u8]) -> Result<(FieldValue, &[u8]), Fault
     let (value, _) = loose::value(alloc, MOST_LEVELS, line)?;
     let mut shown = String::new(alloc);
     push_value(&mut shown, &value)?;
-    let rest = behind(line, shown.as_bytes()).ok_or(Fault::Value)?;
+    let rest = after_mark(line, shown.as_bytes()).ok_or(Fault::Value)?;
     Ok((value, rest))
 }
 

@@ -5,7 +5,7 @@ ghost use Rattle.std.specs.List.{flat_map};
 ghost use Rattle.trace_recordings.specs.Pools.{id_text, pool_text_text, pool_stack_text};
 
 use crate::script::fault::Fault;
-use crate::script::parts::{addresses_at, behind, number_at, text_at};
+use crate::script::parts::{addresses_at, after_mark, number_at, text_at};
 use std::alloc::Global;
 
 /// An entry of a string pool.
@@ -78,9 +78,9 @@ fn id_at(alloc: Global, line: &[u8]) -> Result<(u32, &[u8]), Fault>
     ensures text { IfOk result (λ x. line.now ≡ id_text x.0 ++ x.1.now) }
     ensures shorter { IfOk result (λ x. length x.1.now < length line.now) }
 {
-    let rest = behind(line, b" ").ok_or(Fault::Mark(' '))?;
+    let rest = after_mark(line, b" ").ok_or(Fault::Mark(' '))?;
     let (id, rest) = number_at(alloc, rest)?;
     let id = u32::try_from(id).map_err(|_| Fault::TooLarge)?;
-    let rest = behind(rest, b":").ok_or(Fault::Mark(':'))?;
+    let rest = after_mark(rest, b":").ok_or(Fault::Mark(':'))?;
     Ok((id, rest))
 }

@@ -5,7 +5,7 @@ ghost use Rattle.std.specs.Cmp.Lexicographic.{pointwise};
 ghost use Rattle.trace_values.specs.Values.{bytes, text};
 ghost use Rattle.trace_values.specs.TraceFields.{value_of_option};
 ghost use Rattle.trace_wire.specs.Schemas.{same_entry, same_field};
-ghost use Rattle.trace_samples.specs.EventEntries.{borrowed};
+ghost use Rattle.trace_samples.specs.EventEntries.{borrowed_entry};
 
 use crate::events::definitions::definitions;
 use std::alloc::{AllocError, Global};
@@ -28,7 +28,7 @@ pub struct Borrowed<'a> {
 impl<'a> TraceEvent for Borrowed<'a> {
     ghost slot = { 0 };
 
-    ghost entry = { borrowed };
+    ghost entry = { borrowed_entry };
 
     ghost time = { λ e. e.time };
 
@@ -44,13 +44,13 @@ impl<'a> TraceEvent for Borrowed<'a> {
     }
 
     fn event_name() -> &'static str
-        ensures { result.now ≡ borrowed.name }
+        ensures { result.now ≡ borrowed_entry.name }
     {
         "Borrowed"
     }
 
     fn field_defs(alloc: Global) -> Result<Vec<FieldDef>, AllocError>
-        ensures { IfOk result (λ fields. fields.items ≡ borrowed.fields) }
+        ensures { IfOk result (λ fields. fields.items ≡ borrowed_entry.fields) }
     {
         definitions(
             alloc,
@@ -64,14 +64,14 @@ impl<'a> TraceEvent for Borrowed<'a> {
     }
 
     fn schema_entry(alloc: Global) -> Result<SchemaEntry, AllocError>
-        ensures { IfOk result (λ e. e ≡ borrowed) }
+        ensures { IfOk result (λ e. e ≡ borrowed_entry) }
     {
         let fields = Self::field_defs(alloc)?;
         SchemaEntry::from_parts(alloc, "Borrowed", fields, Vec::new(alloc))
     }
 
     fn is_entry(other: &SchemaEntry) -> bool
-        ensures { result ≡ same_entry other.now borrowed }
+        ensures { result ≡ same_entry other.now borrowed_entry }
     {
         other.name() == "Borrowed"
             && (are_borrowed_fields(other.fields()) && other.annotations().is_empty())
@@ -91,7 +91,7 @@ impl<'a> TraceEvent for Borrowed<'a> {
 
 /// Whether these are the fields of `Borrowed`.
 fn are_borrowed_fields(fields: &[FieldDef]) -> bool
-    ensures { result ≡ pointwise same_field fields.now borrowed.fields }
+    ensures { result ≡ pointwise same_field fields.now borrowed_entry.fields }
 {
     match fields {
         [path, body, note, rest] => is_field(path, "path", FieldType::String)

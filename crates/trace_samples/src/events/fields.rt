@@ -5,7 +5,7 @@ ghost use Rattle.std.specs.Cmp.Lexicographic.{pointwise};
 ghost use Rattle.trace_values.specs.Values.{bytes, pooled_stack, stack, text, texts};
 ghost use Rattle.trace_values.specs.TraceFields.{string_pairs};
 ghost use Rattle.trace_wire.specs.Schemas.{same_field};
-ghost use Rattle.trace_samples.specs.EventEntries.{stacks, texts_entry};
+ghost use Rattle.trace_samples.specs.EventEntries.{stacks_entry, texts_entry};
 
 use crate::events::definitions::definitions;
 use std::alloc::{AllocError, Global};
@@ -99,7 +99,7 @@ pub struct Stacks {
 impl TraceEvent for Stacks {
     ghost slot = { 0 };
 
-    ghost entry = { stacks };
+    ghost entry = { stacks_entry };
 
     ghost time = { λ e. e.time };
 
@@ -147,7 +147,7 @@ impl TraceEvent for Stacks {
 
 /// Whether these are the fields of `Stacks`.
 fn are_stacks_fields(fields: &[FieldDef]) -> bool
-    ensures { result ≡ pointwise same_field fields.now stacks.fields }
+    ensures { result ≡ pointwise same_field fields.now stacks_entry.fields }
 {
     match fields {
         [frames, stack] => is_field(frames, "frames", FieldType::StackFrames)

@@ -4,7 +4,7 @@ ghost use Rattle.std.specs.Prelude.{[], refl, ◌∷◌, ◌≡◌};
 ghost use Rattle.std.specs.Cmp.Lexicographic.{pointwise};
 ghost use Rattle.trace_values.specs.Values.{boolean, float, integer, number};
 ghost use Rattle.trace_wire.specs.Schemas.{same_field};
-ghost use Rattle.trace_samples.specs.EventEntries.{numbers, numbers_fields, numbers_fields_3, numbers_fields_6};
+ghost use Rattle.trace_samples.specs.EventEntries.{numbers_entry, numbers_fields, numbers_fields_3, numbers_fields_6};
 
 use crate::events::definitions::definitions;
 use std::alloc::{AllocError, Global};
@@ -30,7 +30,7 @@ pub struct Numbers {
 impl TraceEvent for Numbers {
     ghost slot = { 1 };
 
-    ghost entry = { numbers };
+    ghost entry = { numbers_entry };
 
     ghost time = { λ e. e.time };
 

@@ -5,7 +5,7 @@ ghost use Rattle.std.specs.Cmp.Lexicographic.{pointwise};
 ghost use Rattle.trace_values.specs.Values.{boolean, bytes, float, integer, number, pooled_stack, pooled_text, stack, text, texts};
 ghost use Rattle.trace_values.specs.TraceFields.{string_pairs, value_of_option};
 ghost use Rattle.trace_wire.specs.Schemas.{same_field};
-ghost use Rattle.trace_samples.specs.EventEntries.{options, options_fields, options_fields_3, options_fields_6, options_fields_9, options_fields_12};
+ghost use Rattle.trace_samples.specs.EventEntries.{options_entry, options_fields, options_fields_3, options_fields_6, options_fields_9, options_fields_12};
 
 use crate::events::definitions::definitions;
 use std::alloc::{AllocError, Global};
@@ -39,7 +39,7 @@ pub struct Options {
 impl TraceEvent for Options {
     ghost slot = { 0 };
 
-    ghost entry = { options };
+    ghost entry = { options_entry };
 
     ghost time = { λ e. e.time };
 

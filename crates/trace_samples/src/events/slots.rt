@@ -4,7 +4,7 @@ ghost use Rattle.std.specs.Prelude.{[], refl, ◌∷◌, ◌≡◌};
 ghost use Rattle.std.specs.Cmp.Lexicographic.{pointwise};
 ghost use Rattle.trace_values.specs.Values.{number};
 ghost use Rattle.trace_wire.specs.Schemas.{same_field, same_annotation};
-ghost use Rattle.trace_samples.specs.EventEntries.{annotated, fast_slot, last_slot, other};
+ghost use Rattle.trace_samples.specs.EventEntries.{annotated_entry, fast_slot, last_slot, other};
 
 use crate::events::definitions::definitions;
 use std::alloc::{AllocError, Global};
@@ -180,7 +180,7 @@ pub struct Annotated {
 impl TraceEvent for Annotated {
     ghost slot = { 9 };
 
-    ghost entry = { annotated };
+    ghost entry = { annotated_entry };
 
     ghost time = { λ e. e.time };
 
@@ -224,7 +224,7 @@ impl TraceEvent for Annotated {
 
 /// Whether these are the fields of `Annotated`.
 fn are_annotated_fields(fields: &[FieldDef]) -> bool
-    ensures { result ≡ pointwise same_field fields.now annotated.fields }
+    ensures { result ≡ pointwise same_field fields.now annotated_entry.fields }
 {
     match fields {
         [load] => is_field(load, "load", FieldType::U8),
@@ -234,7 +234,7 @@ fn are_annotated_fields(fields: &[FieldDef]) -> bool
 
 /// Whether these are the annotations of `Annotated`.
 fn are_annotated_notes(notes: &[FieldAnnotation]) -> bool
-    ensures { result ≡ pointwise same_annotation notes.now annotated.annotations }
+    ensures { result ≡ pointwise same_annotation notes.now annotated_entry.annotations }
 {
     match notes {
         [first, second] => is_annotation(first, 0, "unit", "ns")

@@ -199,7 +199,7 @@ fn check_whole(rt: &impl Abort, alloc: Global, trace: &[u8]) -> Result<(), Fail>
 
 /// The writer fails inside the event: what is left whole is the schema, under which the next encoder writes.
 #[test]
-fn goes_on_behind_a_torn_trace(rt: HostRuntime) -> Result<(), Fail> {
+fn goes_on_after_a_torn_trace(rt: HostRuntime) -> Result<(), Fail> {
     let torn = torn(&rt, rt.alloc())?;
     check_size(&rt, torn.bytes().len(), 22);
     let whole = whole(&rt, rt.alloc(), torn.bytes())?;

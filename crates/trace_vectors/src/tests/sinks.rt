@@ -101,7 +101,7 @@ fn check_fault(
 }
 
 /// After the schema `S` this fault comes, and the position is 18.
-fn check_behind_schema(
+fn check_after_schema(
     rt: &impl Abort,
     alloc: Global,
     tail: &[u8],
@@ -115,7 +115,7 @@ fn check_behind_schema(
 #[test]
 fn faults_of_heads(rt: HostRuntime) -> Result<(), Fail> {
     let alloc = rt.alloc();
-    check_behind_schema(
+    check_after_schema(
         &rt,
         alloc,
         &[0x02, 0x00],
@@ -123,18 +123,18 @@ fn faults_of_heads(rt: HostRuntime) -> Result<(), Fail> {
         18,
     )?;
     let unknown = DecodeErrorKind::UnknownTypeId(WireTypeId(7));
-    check_behind_schema(&rt, alloc, &[0x02, 0x07, 0x00], unknown, 18)?;
+    check_after_schema(&rt, alloc, &[0x02, 0x07, 0x00], unknown, 18)?;
     let no_delta = [0x02, 0x00, 0x01, 0x00];
-    check_behind_schema(&rt, alloc, &no_delta, DecodeErrorKind::TruncatedDelta, 21)
+    check_after_schema(&rt, alloc, &no_delta, DecodeErrorKind::TruncatedDelta, 21)
 }
 
 #[test]
 fn faults_of_fields(rt: HostRuntime) -> Result<(), Fail> {
     let alloc = rt.alloc();
     let no_prefix = [0x02, 0x00, 0x01, 0x00, 0x00, 0x00];
-    check_behind_schema(&rt, alloc, &no_prefix, DecodeErrorKind::TruncatedPrefix, 24)?;
+    check_after_schema(&rt, alloc, &no_prefix, DecodeErrorKind::TruncatedPrefix, 24)?;
     let no_value = [0x02, 0x00, 0x01, 0x00, 0x00, 0x00, 0x01];
-    check_behind_schema(
+    check_after_schema(
         &rt,
         alloc,
         &no_value,
@@ -146,14 +146,14 @@ fn faults_of_fields(rt: HostRuntime) -> Result<(), Fail> {
 #[test]
 fn faults_of_other_frames(rt: HostRuntime) -> Result<(), Fail> {
     let alloc = rt.alloc();
-    check_behind_schema(
+    check_after_schema(
         &rt,
         alloc,
         &[0x05, 0x00],
         DecodeErrorKind::TruncatedReset,
         18,
     )?;
-    check_behind_schema(&rt, alloc, &[0xFF], DecodeErrorKind::NoFrame(0xFF), 18)
+    check_after_schema(&rt, alloc, &[0xFF], DecodeErrorKind::NoFrame(0xFF), 18)
 }
 
 /// The time of the event passes `u64::MAX`, and its field is missing too: the first cause is told.

@@ -418,7 +418,7 @@ fn claimed_counts_ask_for_no_memory(rt: HostRuntime) -> Result<(), Fail> {
 }
 
 #[test]
-fn borrowed_values_behind_an_offset(rt: HostRuntime) -> Result<(), Fail> {
+fn borrowed_values_after_an_offset(rt: HostRuntime) -> Result<(), Fail> {
     let alloc = rt.alloc();
     let bytes = [0xFF, 0xFF, 0x2C, 0x01];
     match FieldValueRef::decode(alloc, FieldType::U16, &bytes, 2)? {

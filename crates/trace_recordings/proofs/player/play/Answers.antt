@@ -4,7 +4,7 @@ use Rattle.trace_recordings.specs.declared.script.call.Call.{Call}
 use Rattle.trace_recordings.specs.Playing.{TurnsEach, playing_of, start}
 use Rattle.trace_recordings.proofs.PlayingLemmas.{TurnsEach-append, written_by}
 use Rattle.std.specs.List.{AllByRecursion}
-use Rattle.trace_recordings.specs.Refusals.{IsHad, Refuses}
+use Rattle.trace_recordings.specs.Refusals.{IsHad, RefusesScript}
 use Rattle.trace_recordings.specs.Scripts.{IsScript}
 use Rattle.trace_recordings.proofs.RefusalLemmas.{not_made}
 use Rattle.trace_recordings.proofs.player.play.Goals as goal
@@ -36,6 +36,6 @@ returns-in_err-make-clause-refused c =
     let same = sym c.deref-call-items.ensures.value in
     let script = subst (λ (x : List Call). IsScript x c.args.text.now) same c.in_ok-script.ensures.read in
     let had = subst (λ (x : List Call). AllByRecursion IsHad x) (c.deref.ensures.value ∙ same) c.in_ok-admit.ensures.admitted in
-    let refused : Refuses c.args.text.now c.in_err-make.field-0.0 =
+    let refused : RefusesScript c.args.text.now c.in_err-make.field-0.0 =
     not_made c.args.text.now calls c.loop-before.before c.saturating_add.result c.call-item.result (playing_of c.loop-before.player) c.in_err-make.field-0.0 script had (omega arith) c.call-item.is c.loop-before.invariant c.saturating_add.ensures c.in_err-make.ensures.refused in
     search rules

@@ -9,12 +9,12 @@ use Rattle.trace_recordings.proofs.HeadLemmas.{first_empty}
 use Rattle.trace_recordings.proofs.recording.recordings_of.Goals as goal
 
 -- the recordings after a head are those of the file
-behind_head : (head rest file : List ℕ) (r : Result (Vec Recording Global) RecordingError) → HasNoEmptyLine head → file ≡ head ++ (codes "\n\n" ++ rest) → IfOk r (λ v. rest ≡ flat_map recording_text v.items) → IfOk r (λ v. IsFile v.items file)
-behind_head head rest file (Ok v) none parts read = (head, none, parts ∙ ap (λ (t : List ℕ). head ++ (codes "\n\n" ++ t)) read)
-behind_head head rest file (Err e) none parts read = tt
+after_head : (head rest file : List ℕ) (r : Result (Vec Recording Global) RecordingError) → HasNoEmptyLine head → file ≡ head ++ (codes "\n\n" ++ rest) → IfOk r (λ v. rest ≡ flat_map recording_text v.items) → IfOk r (λ v. IsFile v.items file)
+after_head head rest file (Ok v) none parts read = (head, none, parts ∙ ap (λ (t : List ℕ). head ++ (codes "\n\n" ++ t)) read)
+after_head head rest file (Err e) none parts read = tt
 
 pub returns : goal.returns
 returns c =
     let parts = split_text_parts (codes "\n\n") c.args.file.now c.split_once.result c.split_once.ensures.cases in
     let none = first_empty c.args.file.now c.split_once.result c.split_once.ensures.cases in
-    behind_head _ _ _ _ ((rw c.in_ok-head.ensures.ok_part at none) (c.begins_empty.ensures c.if-begins_empty.false)) (rw c.in_ok-head.ensures.ok_part at parts) c.recordings_in.ensures
+    after_head _ _ _ _ ((rw c.in_ok-head.ensures.ok_part at none) (c.begins_empty.ensures c.if-begins_empty.false)) (rw c.in_ok-head.ensures.ok_part at parts) c.recordings_in.ensures

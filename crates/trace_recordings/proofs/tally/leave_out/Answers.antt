@@ -8,11 +8,11 @@ use Rattle.trace_recordings.proofs.tally.leave_out.Goals as goal
 
 pub returns-in-Some : goal.returns-in-Some
 returns-in-Some c =
-    let place : Some c.in-Some.place ≡ position (is_named c.args.name.now) c.args.left_out.now.items = rw (← c.deref.ensures.value) c.in-Some.ensures in
-    counted_first _ _ _ _ _ _ place c.index_mut-known.ensures.value (record { name = refl; count = c.saturating_add-known.ensures })
+    let index : Some c.in-Some.index ≡ position (is_named c.args.name.now) c.args.left_out.now.items = rw (← c.deref.ensures.value) c.in-Some.ensures in
+    counted_first _ _ _ _ _ _ index c.index_mut-known.ensures.value (record { name = refl; count = c.saturating_add-known.ensures })
 
 pub returns-in_ok-push-in-None : goal.returns-in_ok-push-in-None
 returns-in_ok-push-in-None c =
-    let place : None ≡ position (is_named c.args.name.now) c.args.left_out.now.items = rw (← c.deref.ensures.value) c.in-None.ensures in
+    let index : None ≡ position (is_named c.args.name.now) c.args.left_out.now.items = rw (← c.deref.ensures.value) c.in-None.ensures in
     let added : LeftOut = record { name = c.args.name; count = 1 } in
-    ap counts_of c.in_ok-push-in-None.ensures.items ∙ (map-append _ c.args.left_out.now.items (added ∷ []) ∙ sym (counted_new c.args.name.now c.args.left_out.now.items added place))
+    ap counts_of c.in_ok-push-in-None.ensures.items ∙ (map-append _ c.args.left_out.now.items (added ∷ []) ∙ sym (counted_new c.args.name.now c.args.left_out.now.items added index))

@@ -259,7 +259,7 @@ fn many_fields(alloc: Global, count: usize) -> Result<Vec<u8>, EncodeError> {
 }
 
 #[test]
-fn fields_behind_any_count_of_others(rt: HostRuntime) -> Result<(), Fail> {
+fn fields_after_any_count_of_others(rt: HostRuntime) -> Result<(), Fail> {
     for count in SIZES {
         let length = (count as u64).saturating_mul(33);
         assert_eq!(rt; many_fields(rt.alloc(), count)?.len() as u64, length);
