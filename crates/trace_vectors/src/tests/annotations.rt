@@ -1,13 +1,10 @@
 //! Annotations of schemas.
 
-use crate::tests::calls::{all, decoder_of, fresh, next_one, register};
-use crate::tests::checks::{
-    check_count, check_dump, check_end, check_id, check_kept, check_registered, check_size,
-    check_unregistered, check_words, check_written,
-};
+use crate::tests::calls::{all, decoder_of, next_one, register};
+use crate::tests::checks::{check_dump, check_end, check_registered};
 use crate::tests::traces::{EV_SCHEMA, HEADER, ev, joined};
 use dial9_trace_format::codec::WireTypeId;
-use dial9_trace_format::decoder::{DecodedFrame, Decoder};
+use dial9_trace_format::decoder::DecodedFrame;
 use dial9_trace_format::encoder::{Encoder, Schema};
 use dial9_trace_format::leb128::EncodeError;
 use dial9_trace_format::schema::{FieldAnnotation, FieldDef, SchemaEntry, SchemaRegistry};
@@ -42,61 +39,44 @@ pub fn annotated(alloc: Global) -> Result<Schema, AllocError> {
     Schema::from_entry(alloc, annotated_entry(alloc)?)
 }
 
-/// The annotation is `unit` and `ns` of field 0.
-fn check_annotation(rt: &impl Abort, annotation: &FieldAnnotation) {
-    check_words(rt, annotation.key(), "unit");
-    check_words(rt, annotation.value(), "ns");
-    assert_eq!(rt; annotation.field_index(), 0);
-}
-
 /// The annotations are `unit` and `ns` of field 0 alone.
 pub fn check_unit(rt: &impl Abort, annotations: &[FieldAnnotation]) {
     assert_eq!(rt; annotations.len(), 1);
-    check_annotation(rt, &annotations[0]);
-}
-
-/// The encoder writes the annotated schema once.
-fn register_twice(rt: &impl Abort, encoder: &mut Encoder, schema: &Schema) {
-    check_registered(rt, encoder, schema, 256, 38);
-    check_kept(rt, encoder, &ANNOTATED);
-    check_registered(rt, encoder, schema, 256, 38);
+    assert_eq!(rt; annotations[0].key(), "unit");
+    assert_eq!(rt; annotations[0].value(), "ns");
+    assert_eq!(rt; annotations[0].field_index(), 0);
 }
 
 #[test]
 fn annotated_schema(rt: HostRuntime) -> Result<(), Fail> {
     let schema = annotated(rt.alloc())?;
-    let mut encoder = fresh(rt.alloc())?;
-    register_twice(&rt, &mut encoder, &schema);
-    Ok(())
-}
-
-/// Registers the annotated schema.
-fn put_annotated(alloc: Global, encoder: &mut Encoder) -> Result<(), EncodeError> {
-    let schema = annotated(alloc)?;
-    register(encoder, &schema)?;
+    let mut encoder = Encoder::new(rt.alloc())?;
+    check_registered(&rt, &mut encoder, &schema, 256, 38);
+    assert_eq!(rt; encoder.as_inner().as_slice(), ANNOTATED.as_slice());
+    check_registered(&rt, &mut encoder, &schema, 256, 38);
     Ok(())
 }
 
 /// An encoder that has written the annotated schema.
 fn encoder_of_annotated(alloc: Global) -> Result<Encoder, EncodeError> {
-    let mut encoder = fresh(alloc)?;
-    put_annotated(alloc, &mut encoder)?;
+    let schema = annotated(alloc)?;
+    let mut encoder = Encoder::new(alloc)?;
+    register(&mut encoder, &schema)?;
     Ok(encoder)
+}
+
+/// The encoder refuses the schema as a conflict.
+fn check_conflict(rt: &impl Abort, encoder: &mut Encoder, schema: &Schema) {
+    assert!(rt; matches!(register(encoder, schema), Err(EncodeError::Conflict)));
 }
 
 #[test]
 fn other_annotations_are_another_entry(rt: HostRuntime) -> Result<(), Fail> {
     let plain = ev(rt.alloc())?;
     let mut encoder = encoder_of_annotated(rt.alloc())?;
-    check_unregistered(&rt, &mut encoder, &plain, EncodeError::Conflict);
-    check_written(&rt, &encoder, 38);
+    check_conflict(&rt, &mut encoder, &plain);
+    assert_eq!(rt; encoder.bytes_written(), 38);
     Ok(())
-}
-
-/// The decoder gives three frames, and its registry has the annotation.
-fn check_kept_unit(rt: &impl Abort, decoder: &mut Decoder<'_>) -> Result<(), Fail> {
-    check_count(rt, decoder, 3)?;
-    check_unit_of(rt, (*decoder).registry())
 }
 
 /// The registry has the annotation under wire id 256.
@@ -110,17 +90,8 @@ fn check_unit_of(rt: &impl Abort, registry: &SchemaRegistry) -> Result<(), Fail>
 fn equal_schema_keeps_the_annotation(rt: HostRuntime) -> Result<(), Fail> {
     let bytes = joined(rt.alloc(), &ANNOTATED, &EV_SCHEMA)?;
     let mut decoder = decoder_of(rt.alloc(), &bytes)?;
-    check_kept_unit(&rt, &mut decoder)
-}
-
-/// Of the decoder's three frames the first and the last are schemas without annotations.
-fn check_bare_schemas(rt: &impl Abort, decoder: &mut Decoder<'_>) -> Result<(), Fail> {
-    let mut schemas: [bool; 3] = [false; 3];
-    for place in 0..3usize {
-        schemas[place] = is_bare_schema(rt, &next_one(decoder)?);
-    }
-    assert_eq!(rt; schemas, [true, false, true]);
-    check_unit_of(rt, (*decoder).registry())
+    assert_eq!(rt; all(&mut decoder)?.len(), 3);
+    check_unit_of(&rt, decoder.registry())
 }
 
 /// The frame, where it is a schema, is `Ev` without annotations; whether it is one.
@@ -139,32 +110,27 @@ fn is_bare_schema(rt: &impl Abort, frame: &DecodedFrame) -> bool {
 fn schemas_are_given_without_annotations(rt: HostRuntime) -> Result<(), Fail> {
     let bytes = joined(rt.alloc(), &ANNOTATED, &EV_SCHEMA)?;
     let mut decoder = decoder_of(rt.alloc(), &bytes)?;
-    check_bare_schemas(&rt, &mut decoder)
-}
-
-/// Two of the frames are schemas without annotations.
-fn check_two_bare(rt: &impl Abort, frames: &[DecodedFrame]) {
-    let mut schemas: u32 = 0;
-    for frame in frames {
-        if is_bare_schema(rt, frame) {
-            schemas = schemas.saturating_add(1);
-        }
+    let mut schemas: [bool; 3] = [false; 3];
+    for place in 0..3usize {
+        schemas[place] = is_bare_schema(&rt, &next_one(&mut decoder)?);
     }
-    assert_eq!(rt; schemas, 2);
-}
-
-/// Of the decoder's frames, given at once, two are schemas without annotations.
-fn check_bare_at_once(rt: &impl Abort, decoder: &mut Decoder<'_>) -> Result<(), Fail> {
-    let frames = all(decoder)?;
-    check_two_bare(rt, &frames);
-    check_unit_of(rt, (*decoder).registry())
+    assert_eq!(rt; schemas, [true, false, true]);
+    check_unit_of(&rt, decoder.registry())
 }
 
 #[test]
 fn schemas_are_given_at_once_without_annotations(rt: HostRuntime) -> Result<(), Fail> {
     let bytes = joined(rt.alloc(), &ANNOTATED, &EV_SCHEMA)?;
     let mut decoder = decoder_of(rt.alloc(), &bytes)?;
-    check_bare_at_once(&rt, &mut decoder)
+    let frames = all(&mut decoder)?;
+    let mut schemas: u32 = 0;
+    for frame in &frames {
+        if is_bare_schema(&rt, frame) {
+            schemas = schemas.saturating_add(1);
+        }
+    }
+    assert_eq!(rt; schemas, 2);
+    check_unit_of(&rt, decoder.registry())
 }
 
 #[test]
@@ -183,8 +149,8 @@ fn check_unknown(rt: &impl Abort, frame: &DecodedFrame) {
             type_id,
             annotations,
         } => {
-            check_id(rt, *type_id, 7);
-            check_size(rt, annotations.len(), 0);
+            assert_eq!(rt; *type_id, WireTypeId(7));
+            assert_eq!(rt; annotations.len(), 0);
         }
         _ => assert!(rt; false, "another frame"),
     }

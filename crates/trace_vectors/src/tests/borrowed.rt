@@ -1,7 +1,6 @@
 //! What a decoder gives of frames whose values stay in the input, and what its iterators give.
 
-use crate::tests::calls::{all_ref, decoder_of, next_one};
-use crate::tests::checks::{check_id, check_number, check_place, check_size};
+use crate::tests::calls::{decoder_of, next, next_one};
 use crate::tests::traces::{ONE_EVENT, OTHER_EV, joined};
 use dial9_trace_format::codec::{PoolEntryRef, StackPoolEntryRef, WireTypeId};
 use dial9_trace_format::decoder::{DecodeError, DecodeErrorKind, DecodedFrameRef, Decoder};
@@ -19,12 +18,6 @@ pub fn step<'a>(decoder: &mut Decoder<'a>) -> Option<Result<DecodedFrameRef<'a>,
     decoder.next()
 }
 
-/// The values are 42 alone.
-fn check_42(rt: &impl Abort, values: &[FieldValueRef<'_>]) {
-    assert_eq!(rt; values.len(), 1);
-    assert!(rt; values[0] == FieldValueRef::Varint(42));
-}
-
 /// The frame is the event at 1,000 with 42.
 fn check_event_ref(rt: &impl Abort, frame: &DecodedFrameRef<'_>) {
     match frame {
@@ -33,9 +26,10 @@ fn check_event_ref(rt: &impl Abort, frame: &DecodedFrameRef<'_>) {
             timestamp_ns,
             values,
         } => {
-            check_id(rt, *type_id, 256);
-            check_number(rt, *timestamp_ns, 1_000);
-            check_42(rt, values);
+            assert_eq!(rt; *type_id, WireTypeId(256));
+            assert_eq!(rt; *timestamp_ns, 1_000);
+            assert_eq!(rt; values.len(), 1);
+            assert!(rt; values[0] == FieldValueRef::Varint(42));
         }
         _ => assert!(rt; false, "another frame"),
     }
@@ -47,87 +41,52 @@ const BAD_TEXT: [u8; 29] = [
     0x73, 0x04, 0x02, 0x00, 0x01, 0x00, 0x00, 0x00, 0x01, 0x00, 0x00, 0x00, 0xFF,
 ];
 
-/// The decoder gives no borrowed frame.
-fn check_no_ref(rt: &impl Abort, decoder: &mut Decoder<'_>) -> Result<(), DecodeError> {
-    assert!(rt; next_ref(decoder)?.is_none());
-    Ok(())
-}
-
-/// The decoder gives a borrowed frame.
-fn check_some_ref(rt: &impl Abort, decoder: &mut Decoder<'_>) -> Result<(), DecodeError> {
-    assert!(rt; next_ref(decoder)?.is_some());
-    Ok(())
-}
-
-/// The decoder's iterator gives nothing.
-fn check_no_step(rt: &impl Abort, decoder: &mut Decoder<'_>) {
-    assert!(rt; step(decoder).is_none());
-}
-
-/// The decoder gives the second frame only with owned values.
-fn check_only_owned(rt: &impl Abort, decoder: &mut Decoder<'_>) -> Result<(), Fail> {
-    check_some_ref(rt, decoder)?;
-    check_no_ref(rt, decoder)?;
-    check_no_step(rt, decoder);
-    check_place(rt, decoder, 18);
-    next_one(decoder)?;
-    check_place(rt, decoder, 29);
-    Ok(())
-}
-
 #[test]
 fn text_that_only_owned_frames_have(rt: HostRuntime) -> Result<(), Fail> {
     let mut decoder = decoder_of(rt.alloc(), &BAD_TEXT)?;
-    check_only_owned(&rt, &mut decoder)
+    assert!(rt; next_ref(&mut decoder)?.is_some());
+    assert!(rt; next_ref(&mut decoder)?.is_none());
+    assert!(rt; step(&mut decoder).is_none());
+    assert_eq!(rt; decoder.position(), 18);
+    assert!(rt; next(&mut decoder)?.is_some());
+    assert_eq!(rt; decoder.position(), 29);
+    Ok(())
 }
 
-/// The fault is the conflict of wire id 256.
-fn check_conflict(rt: &impl Abort, error: &DecodeError) {
-    check_size(rt, error.pos, 40);
-    assert!(rt; error.kind == DecodeErrorKind::Conflict(WireTypeId(256)));
-}
-
-/// The iterator gives that conflict.
+/// The iterator gives the conflict of wire id 256.
 fn check_conflict_told(rt: &impl Abort, decoder: &mut Decoder<'_>) {
     match step(decoder) {
-        Some(Err(error)) => check_conflict(rt, &error),
+        Some(Err(error)) => {
+            assert_eq!(rt; error.pos, 40);
+            assert_eq!(rt; error.kind, DecodeErrorKind::Conflict(WireTypeId(256)));
+        }
         _ => assert!(rt; false, "no conflict"),
     }
-}
-
-/// After two frames the iterator gives the conflict once, and the reader of borrowed frames gives it again.
-fn check_told_once(rt: &impl Abort, decoder: &mut Decoder<'_>) -> Result<(), Fail> {
-    check_some_ref(rt, decoder)?;
-    next_one(decoder)?;
-    check_conflict_told(rt, decoder);
-    check_no_step(rt, decoder);
-    assert!(rt; decoder.events().next().is_none());
-    assert!(rt; next_ref(decoder).is_err());
-    Ok(())
 }
 
 #[test]
 fn conflict_is_told_once(rt: HostRuntime) -> Result<(), Fail> {
     let bytes = joined(rt.alloc(), &ONE_EVENT, &OTHER_EV)?;
     let mut decoder = decoder_of(rt.alloc(), &bytes)?;
-    check_told_once(&rt, &mut decoder)
-}
-
-/// The decoder's iterator of events gives the event, and then twice nothing.
-fn check_events_alone(rt: &impl Abort, decoder: &mut Decoder<'_>) {
-    let mut events = decoder.events();
-    match events.next() {
-        Some(Ok(frame)) => check_event_ref(rt, &frame),
-        _ => assert!(rt; false, "no event"),
-    }
-    assert!(rt; events.next().is_none());
-    assert!(rt; events.next().is_none());
+    assert!(rt; next_ref(&mut decoder)?.is_some());
+    next_one(&mut decoder)?;
+    check_conflict_told(&rt, &mut decoder);
+    assert!(rt; step(&mut decoder).is_none());
+    assert!(rt; decoder.events().next().is_none());
+    assert!(rt; next_ref(&mut decoder).is_err());
+    Ok(())
 }
 
 #[test]
 fn events_alone(rt: HostRuntime) -> Result<(), Fail> {
     let mut decoder = decoder_of(rt.alloc(), &ONE_EVENT)?;
-    check_events_alone(&rt, &mut decoder);
+    let mut events = decoder.events();
+    match events.next() {
+        Some(Ok(frame)) => check_event_ref(&rt, &frame),
+        _ => assert!(rt; false, "no event"),
+    }
+    assert!(rt; events.next().is_none());
+    assert!(rt; events.next().is_none());
     Ok(())
 }
 
@@ -167,13 +126,6 @@ fn check_stacks(rt: &impl Abort, frame: &DecodedFrameRef<'_>) {
     }
 }
 
-/// The frames are both pools.
-fn check_pools(rt: &impl Abort, frames: &[DecodedFrameRef<'_>]) {
-    assert_eq!(rt; frames.len(), 2);
-    check_texts(rt, &frames[0]);
-    check_stacks(rt, &frames[1]);
-}
-
 #[test]
 fn pool_entries_in_the_input(rt: HostRuntime) -> Result<(), Fail> {
     let bytes = [
@@ -182,7 +134,9 @@ fn pool_entries_in_the_input(rt: HostRuntime) -> Result<(), Fail> {
         0x00, 0x00, 0x01, 0x00, 0x00, 0x00, 0x34, 0x12, 0x00, 0x00, 0x00, 0x00, 0x00, 0x00,
     ];
     let mut decoder = decoder_of(rt.alloc(), &bytes)?;
-    let frames = all_ref(&mut decoder)?;
-    check_pools(&rt, &frames);
+    let frames = decoder.decode_all_ref()?;
+    assert_eq!(rt; frames.len(), 2);
+    check_texts(&rt, &frames[0]);
+    check_stacks(&rt, &frames[1]);
     Ok(())
 }

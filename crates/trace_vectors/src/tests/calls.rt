@@ -2,7 +2,7 @@
 
 use dial9_trace_format::TraceEvent;
 use dial9_trace_format::codec::{PoolEntry, StackPoolEntry, WireTypeId};
-use dial9_trace_format::decoder::{DecodeError, DecodedFrame, DecodedFrameRef, Decoder};
+use dial9_trace_format::decoder::{DecodedFrame, Decoder};
 use dial9_trace_format::encoder::{Call, Encoder, RawEncoder, Reply, Schema, run_calls};
 use dial9_trace_format::leb128::EncodeError;
 use dial9_trace_format::schema::FieldDef;
@@ -133,25 +133,9 @@ pub fn into_encoder(alloc: Global, decoder: Decoder<'_>) -> Result<Encoder, Enco
     decoder.into_encoder(Vec::new(alloc))
 }
 
-/// `Decoder::decode_all`, whose frames are let go.
-pub fn read_all(decoder: &mut Decoder<'_>) -> Result<(), Fail> {
-    let _frames = all(decoder)?;
-    Ok(())
-}
-
-/// `Decoder::decode_all_ref`.
-pub fn all_ref<'a>(decoder: &mut Decoder<'a>) -> Result<Vec<DecodedFrameRef<'a>>, DecodeError> {
-    decoder.decode_all_ref()
-}
-
-/// `Encoder::finish`.
-pub fn finished(encoder: Encoder) -> Vec<u8> {
-    encoder.finish()
-}
-
-/// `Decoder::into_encoder`, over a new vector, of a decoder that has read all.
+/// The same of a decoder that has read all.
 pub fn resumed(alloc: Global, bytes: &[u8]) -> Result<Encoder, Fail> {
     let mut decoder = decoder_of(alloc, bytes)?;
-    read_all(&mut decoder)?;
+    let _frames = all(&mut decoder)?;
     Ok(into_encoder(alloc, decoder)?)
 }

@@ -1,6 +1,5 @@
 //! Copies of parts of schemas and of pool entries.
 
-use crate::tests::checks::check_bytes;
 use dial9_trace_format::codec::{PoolEntry, StackPoolEntry};
 use dial9_trace_format::schema::{FieldAnnotation, FieldDef, SchemaEntry};
 use dial9_trace_format::types::FieldType;
@@ -66,12 +65,6 @@ fn copied_entry(rt: HostRuntime) -> Result<(), Fail> {
     Ok(())
 }
 
-/// The entry is `x` under 5.
-fn check_text(rt: &impl Abort, entry: &PoolEntry) {
-    assert_eq!(rt; entry.pool_id, 5);
-    check_bytes(rt, &entry.bytes, b"x");
-}
-
 #[test]
 fn copied_text_of_a_pool(rt: HostRuntime) -> Result<(), Fail> {
     let entry = PoolEntry {
@@ -79,15 +72,10 @@ fn copied_text_of_a_pool(rt: HostRuntime) -> Result<(), Fail> {
         bytes: Vec::from_slice(rt.alloc(), b"x")?,
     };
     let copy = entry.clone(rt.alloc())?;
-    check_text(&rt, &copy);
+    assert_eq!(rt; copy.pool_id, 5);
+    assert_eq!(rt; copy.bytes.as_slice(), b"x".as_slice());
     assert!(rt; copy == entry);
     Ok(())
-}
-
-/// The entry is a stack of two addresses under 5.
-fn check_stack(rt: &impl Abort, entry: &StackPoolEntry) {
-    assert_eq!(rt; entry.pool_id, 5);
-    assert_eq!(rt; entry.frames.as_slice(), [0xaaaa, 0xbbbb].as_slice());
 }
 
 #[test]
@@ -97,7 +85,8 @@ fn copied_stack_of_a_pool(rt: HostRuntime) -> Result<(), Fail> {
         frames: Vec::from_slice(rt.alloc(), &[0xaaaa, 0xbbbb])?,
     };
     let copy = entry.clone(rt.alloc())?;
-    check_stack(&rt, &copy);
+    assert_eq!(rt; copy.pool_id, 5);
+    assert_eq!(rt; copy.frames.as_slice(), [0xaaaa, 0xbbbb].as_slice());
     assert!(rt; copy == entry);
     Ok(())
 }

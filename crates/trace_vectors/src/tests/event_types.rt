@@ -1,7 +1,6 @@
 //! Events of event types.
 
-use crate::tests::calls::{fresh, put, put_event, resumed};
-use crate::tests::checks::{check_fault, check_kept, check_part, check_written};
+use crate::tests::calls::{put, put_event, resumed};
 use dial9_trace_format::TraceEvent;
 use dial9_trace_format::encoder::{Encoder, Schema};
 use dial9_trace_format::leb128::EncodeError;
@@ -52,8 +51,9 @@ fn check_refused<T: TraceEvent>(
     error: EncodeError,
 ) {
     let before = encoder.bytes_written();
-    check_fault(rt, put(encoder, event).err(), error);
-    check_written(rt, encoder, before);
+    let answer = put(encoder, event);
+    assert!(rt; answer == Err(error));
+    assert_eq!(rt; encoder.bytes_written(), before);
 }
 
 fn poll() -> Poll {
@@ -67,65 +67,54 @@ fn poll() -> Poll {
 
 /// `Dyn`, with one field `v: Varint`.
 fn dynamic_schema(alloc: Global) -> Result<Schema, AllocError> {
-    let field = FieldDef::new(alloc, "v", FieldType::Varint)?;
-    let fields = vec![in alloc; field]?;
+    let mut fields = Vec::new(alloc);
+    fields.push(FieldDef::new(alloc, "v", FieldType::Varint)?)?;
     Schema::new(alloc, "Dyn", fields)
-}
-
-/// The encoder writes an event of a slot, and then one of the schema.
-fn put_slot_and_name(
-    rt: &impl Abort,
-    encoder: &mut Encoder,
-    schema: &Schema,
-) -> Result<(), EncodeError> {
-    put(encoder, &FastSlot { time: 1_000_000 })?;
-    check_kept(rt, encoder, &FAST_SLOT);
-    put_event(encoder, schema, 2_000, &[FieldValue::Varint(1)])
 }
 
 #[test]
 fn slot_beside_name(rt: HostRuntime) -> Result<(), Fail> {
     let schema = dynamic_schema(rt.alloc())?;
-    let mut encoder = fresh(rt.alloc())?;
-    put_slot_and_name(&rt, &mut encoder, &schema)?;
-    check_part(&rt, encoder.as_inner().as_slice().get(27..), &DYN);
-    Ok(())
-}
-
-/// The encoder writes the event twice, and the schema once.
-fn put_twice(rt: &impl Abort, encoder: &mut Encoder) -> Result<(), Fail> {
-    put(encoder, &poll())?;
-    check_kept(rt, encoder, &POLL);
-    put(encoder, &poll())?;
-    check_written(rt, encoder, 72);
+    let mut encoder = Encoder::new(rt.alloc())?;
+    put(&mut encoder, &FastSlot { time: 1_000_000 })?;
+    assert_eq!(rt; encoder.as_inner().as_slice(), FAST_SLOT.as_slice());
+    put_event(&mut encoder, &schema, 2_000, &[FieldValue::Varint(1)])?;
+    assert_eq!(rt;
+        encoder.as_inner().as_slice().get(27..),
+        Some(DYN.as_slice())
+    );
     Ok(())
 }
 
 #[test]
 fn type_by_name(rt: HostRuntime) -> Result<(), Fail> {
-    let mut encoder = fresh(rt.alloc())?;
-    put_twice(&rt, &mut encoder)
+    let mut encoder = Encoder::new(rt.alloc())?;
+    put(&mut encoder, &poll())?;
+    assert_eq!(rt; encoder.as_inner().as_slice(), POLL.as_slice());
+    put(&mut encoder, &poll())?;
+    assert_eq!(rt; encoder.bytes_written(), 72);
+    Ok(())
 }
 
 #[test]
 fn slot_from_256_by_name(rt: HostRuntime) -> Result<(), Fail> {
-    let mut encoder = fresh(rt.alloc())?;
+    let mut encoder = Encoder::new(rt.alloc())?;
     put(&mut encoder, &ByName { time: 1 })?;
-    check_kept(&rt, &encoder, &OTHER);
-    Ok(())
-}
-
-/// The encoder writes an event of a slot, and refuses another type of that slot.
-fn put_clash(rt: &impl Abort, encoder: &mut Encoder) -> Result<(), Fail> {
-    put(encoder, &FastSlot { time: 1_000_000 })?;
-    check_refused(rt, encoder, &SlotClash { time: 1 }, EncodeError::SlotTaken);
+    assert_eq!(rt; encoder.as_inner().as_slice(), OTHER.as_slice());
     Ok(())
 }
 
 #[test]
 fn slot_taken(rt: HostRuntime) -> Result<(), Fail> {
-    let mut encoder = fresh(rt.alloc())?;
-    put_clash(&rt, &mut encoder)
+    let mut encoder = Encoder::new(rt.alloc())?;
+    put(&mut encoder, &FastSlot { time: 1_000_000 })?;
+    check_refused(
+        &rt,
+        &mut encoder,
+        &SlotClash { time: 1 },
+        EncodeError::SlotTaken,
+    );
+    Ok(())
 }
 
 #[test]
@@ -137,26 +126,21 @@ fn slot_untimed(rt: HostRuntime) -> Result<(), Fail> {
         &FastSlot { time: 1 },
         EncodeError::SlotUntimed,
     );
-    check_written(&rt, &encoder, 0);
-    Ok(())
-}
-
-/// The encoder writes an event, and refuses another type of that name.
-fn put_other(rt: &impl Abort, encoder: &mut Encoder) -> Result<(), Fail> {
-    let other = PollAgain {
-        time: 0,
-        worker: 1,
-        core: 1,
-    };
-    put(encoder, &poll())?;
-    check_refused(rt, encoder, &other, EncodeError::Conflict);
+    assert_eq!(rt; encoder.bytes_written(), 0);
     Ok(())
 }
 
 #[test]
 fn name_of_another_type(rt: HostRuntime) -> Result<(), Fail> {
-    let mut encoder = fresh(rt.alloc())?;
-    put_other(&rt, &mut encoder)
+    let other = PollAgain {
+        time: 0,
+        worker: 1,
+        core: 1,
+    };
+    let mut encoder = Encoder::new(rt.alloc())?;
+    put(&mut encoder, &poll())?;
+    check_refused(&rt, &mut encoder, &other, EncodeError::Conflict);
+    Ok(())
 }
 
 /// The second field does not fit: a number is no map.
@@ -171,8 +155,8 @@ fn misfit_after_a_list(alloc: Global) -> Dynamic {
 #[test]
 fn misfit_in_the_middle(rt: HostRuntime) -> Result<(), Fail> {
     let event = misfit_after_a_list(rt.alloc());
-    let mut encoder = fresh(rt.alloc())?;
+    let mut encoder = Encoder::new(rt.alloc())?;
     check_refused(&rt, &mut encoder, &event, EncodeError::Misfit { field: 0 });
-    check_written(&rt, &encoder, 5);
+    assert_eq!(rt; encoder.bytes_written(), 5);
     Ok(())
 }

@@ -1,9 +1,7 @@
 //! Fields of events: values written by the type of their field.
 
-use crate::tests::calls::{all_of, finished, fresh, put_event, put_one, register_new};
-use crate::tests::checks::{
-    check_all, check_finished, check_part, check_refused, check_size, check_written,
-};
+use crate::tests::calls::{all_of, put_event, put_one, register_new};
+use crate::tests::checks::{check_all, check_refused};
 use crate::tests::traces::{HEADER, nested_lists, one_field};
 use dial9_trace_format::decoder::DecodedFrame;
 use dial9_trace_format::encoder::{Encoder, Schema};
@@ -37,14 +35,9 @@ fn check_value(
     value: &FieldValue,
 ) -> Result<(), Fail> {
     let values = last_values(alloc, bytes)?;
-    check_alone(rt, &values, value);
-    Ok(())
-}
-
-/// The values are this one alone.
-fn check_alone(rt: &impl Abort, values: &[FieldValue], value: &FieldValue) {
     assert_eq!(rt; values.len(), 1);
     assert!(rt; values[0] == *value);
+    Ok(())
 }
 
 /// The encoder refuses the value for field 0, and writes nothing.
@@ -53,43 +46,27 @@ fn check_misfit(rt: &impl Abort, encoder: &mut Encoder, schema: &Schema, value: 
     check_refused(rt, encoder, schema, &[value], misfit);
 }
 
-/// The encoder writes the number 300, and refuses a greater number and a truth.
-fn put_short(rt: &impl Abort, encoder: &mut Encoder, schema: &Schema) -> Result<(), EncodeError> {
-    put_one(encoder, schema, 0, FieldValue::Varint(300))?;
-    check_written(rt, encoder, 26);
-    check_misfit(rt, encoder, schema, FieldValue::Varint(65_536));
-    check_misfit(rt, encoder, schema, FieldValue::Bool(true));
-    Ok(())
-}
-
-/// What an encoder writes so.
-fn short_number(rt: &impl Abort, alloc: Global) -> Result<Vec<u8>, EncodeError> {
-    let schema = one_field(alloc, "S", "n", FieldType::U16)?;
-    let mut encoder = fresh(alloc)?;
-    put_short(rt, &mut encoder, &schema)?;
-    Ok(finished(encoder))
-}
-
 #[test]
 fn numbers_of_two_bytes(rt: HostRuntime) -> Result<(), Fail> {
-    let bytes = short_number(&rt, rt.alloc())?;
+    let schema = one_field(rt.alloc(), "S", "n", FieldType::U16)?;
+    let mut encoder = Encoder::new(rt.alloc())?;
+    put_one(&mut encoder, &schema, 0, FieldValue::Varint(300))?;
+    assert_eq!(rt; encoder.bytes_written(), 26);
+    check_misfit(&rt, &mut encoder, &schema, FieldValue::Varint(65_536));
+    check_misfit(&rt, &mut encoder, &schema, FieldValue::Bool(true));
+    let bytes = encoder.finish();
     let event = [0x02, 0x00, 0x01, 0x00, 0x00, 0x00, 0x2C, 0x01];
-    check_part(&rt, bytes.as_slice().get(18..), &event);
+    assert_eq!(rt; bytes.as_slice().get(18..), Some(event.as_slice()));
     check_value(&rt, rt.alloc(), &bytes, &FieldValue::Varint(300))
-}
-
-/// Writes events at 0: one without a value, and one with 7.
-fn put_absent_and_seven(encoder: &mut Encoder, schema: &Schema) -> Result<(), EncodeError> {
-    put_one(encoder, schema, 0, FieldValue::None)?;
-    put_one(encoder, schema, 0, FieldValue::Varint(7))
 }
 
 /// Events at 0 of a field `o` that may be absent: without it, and with 7.
 fn absent_and_seven(alloc: Global) -> Result<Vec<u8>, EncodeError> {
     let schema = one_field(alloc, "S", "o", FieldType::OptionalU8)?;
-    let mut encoder = fresh(alloc)?;
-    put_absent_and_seven(&mut encoder, &schema)?;
-    Ok(finished(encoder))
+    let mut encoder = Encoder::new(alloc)?;
+    put_one(&mut encoder, &schema, 0, FieldValue::None)?;
+    put_one(&mut encoder, &schema, 0, FieldValue::Varint(7))?;
+    Ok(encoder.finish())
 }
 
 #[test]
@@ -99,64 +76,41 @@ fn optional_fields(rt: HostRuntime) -> Result<(), Fail> {
         0x8B, 0x02, 0x00, 0x01, 0x00, 0x00, 0x00, 0x00, 0x02, 0x00, 0x01, 0x00, 0x00, 0x00, 0x01,
         0x07,
     ];
-    check_part(&rt, bytes.as_slice().get(17..), &tag_and_events);
+    assert_eq!(rt; bytes.as_slice().get(17..), Some(tag_and_events.as_slice()));
     bytes.extend_from_slice(&[0x02, 0x00, 0x01, 0x00, 0x00, 0x00, 0x02, 0x07])?;
     check_value(&rt, rt.alloc(), &bytes, &FieldValue::Varint(7))
 }
 
-/// The fields of a text and a byte.
-fn fields_of_text_and_byte(alloc: Global) -> Result<Vec<FieldDef>, AllocError> {
-    let text = FieldDef::new(alloc, "s", FieldType::String)?;
-    let byte = FieldDef::new(alloc, "n", FieldType::U8)?;
-    Ok(vec![in alloc; text, byte]?)
-}
-
 /// A schema of a text and a byte.
 fn text_and_byte(alloc: Global) -> Result<Schema, AllocError> {
-    let fields = fields_of_text_and_byte(alloc)?;
+    let mut fields = Vec::new(alloc);
+    fields.push(FieldDef::new(alloc, "s", FieldType::String)?)?;
+    fields.push(FieldDef::new(alloc, "n", FieldType::U8)?)?;
     Schema::new(alloc, "S", fields)
-}
-
-/// Of two values that do not fit, the first is told.
-fn check_two_misfits(rt: &impl Abort, encoder: &mut Encoder, schema: &Schema) {
-    let values = [FieldValue::Varint(1), FieldValue::Varint(256)];
-    let first = EncodeError::Misfit { field: 0 };
-    check_refused(rt, encoder, schema, &values, first);
-}
-
-/// Of values of which the second does not fit, that one is told.
-fn check_one_misfit(
-    rt: &impl Abort,
-    alloc: Global,
-    encoder: &mut Encoder,
-    schema: &Schema,
-) -> Result<(), EncodeError> {
-    let values = [FieldValue::string(alloc, "hi")?, FieldValue::Varint(256)];
-    let second = EncodeError::Misfit { field: 1 };
-    check_refused(rt, encoder, schema, &values, second);
-    Ok(())
-}
-
-/// Of too few values, their count is told.
-fn check_too_few(rt: &impl Abort, encoder: &mut Encoder, schema: &Schema) {
-    let values = [FieldValue::Varint(1)];
-    check_refused(rt, encoder, schema, &values, EncodeError::ValueCount);
-}
-
-/// The encoder refuses all of them for a text and a byte.
-fn check_misfits(rt: &impl Abort, alloc: Global, encoder: &mut Encoder) -> Result<(), EncodeError> {
-    let schema = text_and_byte(alloc)?;
-    check_two_misfits(rt, encoder, &schema);
-    check_one_misfit(rt, alloc, encoder, &schema)?;
-    check_too_few(rt, encoder, &schema);
-    Ok(())
 }
 
 #[test]
 fn least_field_that_does_not_fit(rt: HostRuntime) -> Result<(), Fail> {
-    let mut encoder = fresh(rt.alloc())?;
-    check_misfits(&rt, rt.alloc(), &mut encoder)?;
-    check_finished(&rt, encoder, &HEADER);
+    let two_misfits = [FieldValue::Varint(1), FieldValue::Varint(256)];
+    let one_misfit = [
+        FieldValue::string(rt.alloc(), "hi")?,
+        FieldValue::Varint(256),
+    ];
+    let schema = text_and_byte(rt.alloc())?;
+    let mut encoder = Encoder::new(rt.alloc())?;
+    let first = EncodeError::Misfit { field: 0 };
+    check_refused(&rt, &mut encoder, &schema, &two_misfits, first);
+    let second = EncodeError::Misfit { field: 1 };
+    check_refused(&rt, &mut encoder, &schema, &one_misfit, second);
+    let too_few = [FieldValue::Varint(1)];
+    check_refused(
+        &rt,
+        &mut encoder,
+        &schema,
+        &too_few,
+        EncodeError::ValueCount,
+    );
+    assert_eq!(rt; encoder.finish().as_slice(), HEADER.as_slice());
     Ok(())
 }
 
@@ -170,19 +124,14 @@ fn is_too_long(alloc: Global, encoder: &mut Encoder, length: usize) -> Result<bo
     }
 }
 
-/// The encoder refuses a name that is too long, and registers the longest one.
-fn check_longest(rt: &impl Abort, alloc: Global, encoder: &mut Encoder) -> Result<(), Fail> {
-    assert!(rt; is_too_long(alloc, encoder, 65_536)?);
-    check_written(rt, encoder, 5);
-    assert!(rt; !is_too_long(alloc, encoder, 65_535)?);
-    check_written(rt, encoder, 65_548);
-    Ok(())
-}
-
 #[test]
 fn name_of_greatest_length(rt: HostRuntime) -> Result<(), Fail> {
-    let mut encoder = fresh(rt.alloc())?;
-    check_longest(&rt, rt.alloc(), &mut encoder)
+    let mut encoder = Encoder::new(rt.alloc())?;
+    assert!(rt; is_too_long(rt.alloc(), &mut encoder, 65_536)?);
+    assert_eq!(rt; encoder.bytes_written(), 5);
+    assert!(rt; !is_too_long(rt.alloc(), &mut encoder, 65_535)?);
+    assert_eq!(rt; encoder.bytes_written(), 65_548);
+    Ok(())
 }
 
 /// A list of nothing but an absent value.
@@ -199,9 +148,11 @@ fn check_unfit(
     field_type: FieldType,
     value: FieldValue,
 ) -> Result<(), Fail> {
+    let values = [value];
     let schema = one_field(alloc, "L", "l", field_type)?;
-    let mut encoder = fresh(alloc)?;
-    check_misfit(rt, &mut encoder, &schema, value);
+    let mut encoder = Encoder::new(alloc)?;
+    let misfit = EncodeError::Misfit { field: 0 };
+    check_refused(rt, &mut encoder, &schema, &values, misfit);
     Ok(())
 }
 
@@ -213,17 +164,6 @@ fn lists_that_do_not_fit(rt: HostRuntime) -> Result<(), Fail> {
     check_unfit(&rt, rt.alloc(), list, list_of_none(rt.alloc())?)
 }
 
-/// What an encoder writes for an event at 0 of these values, of the schema.
-fn event_of_schema(
-    alloc: Global,
-    schema: &Schema,
-    values: &[FieldValue],
-) -> Result<Vec<u8>, EncodeError> {
-    let mut encoder = fresh(alloc)?;
-    put_event(&mut encoder, schema, 0, values)?;
-    Ok(finished(encoder))
-}
-
 /// What an encoder writes for an event at 0 of these values, of a field of this type.
 fn event_of(
     alloc: Global,
@@ -231,7 +171,9 @@ fn event_of(
     values: &[FieldValue],
 ) -> Result<Vec<u8>, EncodeError> {
     let schema = one_field(alloc, "K", "f", field_type)?;
-    event_of_schema(alloc, &schema, values)
+    let mut encoder = Encoder::new(alloc)?;
+    put_event(&mut encoder, &schema, 0, values)?;
+    Ok(encoder.finish())
 }
 
 #[test]
@@ -262,7 +204,7 @@ fn addresses(alloc: Global, count: usize) -> Result<FieldValue, AllocError> {
 fn a_million_and_one_addresses(rt: HostRuntime) -> Result<(), Fail> {
     let values = [addresses(rt.alloc(), 1_000_001)?];
     let bytes = event_of(rt.alloc(), FieldType::StackFrames, &values)?;
-    check_size(&rt, bytes.len(), 8_000_036);
+    assert_eq!(rt; bytes.len(), 8_000_036);
     check_value(&rt, rt.alloc(), &bytes, &values[0])
 }
 

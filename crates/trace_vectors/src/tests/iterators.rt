@@ -1,11 +1,8 @@
 //! Iterators over parts of the input.
 
-use crate::tests::checks::check_size;
 use dial9_trace_format::types::{
-    DynamicListRef, DynamicMapRef, FieldType, FieldValue, FieldValueRef, StackFrameIter,
-    StringMapIter,
+    FieldType, FieldValue, FieldValueRef, StackFrameIter, StringMapIter,
 };
-use std::process::Abort;
 use std::test::Fail;
 
 #[test]
@@ -60,42 +57,22 @@ fn pairs_that_are_no_text(rt: HostRuntime) -> Result<(), Fail> {
     Ok(())
 }
 
-/// The items are 5 and a truth.
-fn check_items(rt: &impl Abort, items: &DynamicListRef<'_>) {
-    check_size(rt, items.len(), 2);
-    assert!(rt; !items.is_empty());
-    let mut each = items.iter();
-    assert!(rt; matches!(each.next(), Some(FieldValueRef::Varint(5))));
-    assert!(rt; matches!(each.next(), Some(FieldValueRef::Bool(true))));
-    assert!(rt; each.next().is_none());
-}
-
 #[test]
 fn borrowed_lists(rt: HostRuntime) -> Result<(), Fail> {
     let alloc = rt.alloc();
     let list = [0x02, 0x00, 0x00, 0x00, 0x09, 0x05, 0x03, 0x01];
     match FieldValueRef::decode(alloc, FieldType::DynamicList, &list, 0)? {
-        Some((FieldValueRef::List(items), 8)) => check_items(&rt, &items),
+        Some((FieldValueRef::List(items), 8)) => {
+            assert_eq!(rt; items.len(), 2);
+            assert!(rt; !items.is_empty());
+            let mut each = items.iter();
+            assert!(rt; matches!(each.next(), Some(FieldValueRef::Varint(5))));
+            assert!(rt; matches!(each.next(), Some(FieldValueRef::Bool(true))));
+            assert!(rt; each.next().is_none());
+        }
         _ => assert!(rt; false, "no list"),
     }
     Ok(())
-}
-
-/// The pair is 5 and an untruth.
-fn check_pair(rt: &impl Abort, key: &FieldValueRef<'_>, value: &FieldValueRef<'_>) {
-    assert!(rt; matches!(key, FieldValueRef::Varint(5)));
-    assert!(rt; matches!(value, FieldValueRef::Bool(false)));
-}
-
-/// The map has that pair alone.
-fn check_pairs(rt: &impl Abort, pairs: &DynamicMapRef<'_>) {
-    check_size(rt, pairs.len(), 1);
-    let mut each = pairs.iter();
-    match each.next() {
-        Some((key, value)) => check_pair(rt, &key, &value),
-        None => assert!(rt; false, "no pair"),
-    }
-    assert!(rt; each.next().is_none());
 }
 
 #[test]
@@ -103,7 +80,18 @@ fn borrowed_maps(rt: HostRuntime) -> Result<(), Fail> {
     let alloc = rt.alloc();
     let map = [0x01, 0x00, 0x00, 0x00, 0x09, 0x05, 0x03, 0x00];
     match FieldValueRef::decode(alloc, FieldType::DynamicMap, &map, 0)? {
-        Some((FieldValueRef::Map(pairs), 8)) => check_pairs(&rt, &pairs),
+        Some((FieldValueRef::Map(pairs), 8)) => {
+            assert_eq!(rt; pairs.len(), 1);
+            let mut each = pairs.iter();
+            match each.next() {
+                Some((key, value)) => {
+                    assert!(rt; matches!(key, FieldValueRef::Varint(5)));
+                    assert!(rt; matches!(value, FieldValueRef::Bool(false)));
+                }
+                None => assert!(rt; false, "no pair"),
+            }
+            assert!(rt; each.next().is_none());
+        }
         _ => assert!(rt; false, "no map"),
     }
     Ok(())

@@ -11,8 +11,7 @@ use std::test::Fail;
 fn fields_of(alloc: Global, types: &[FieldType]) -> Result<Vec<FieldDef>, AllocError> {
     let mut fields = Vec::new(alloc);
     for field_type in types {
-        let field = FieldDef::new(alloc, "f", *field_type)?;
-        fields.push(field)?;
+        fields.push(FieldDef::new(alloc, "f", *field_type)?)?;
     }
     Ok(fields)
 }

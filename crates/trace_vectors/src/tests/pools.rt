@@ -1,16 +1,13 @@
 //! Pools of texts and of stacks, and interning.
 
 use crate::tests::calls::{
-    decoder_of, finished, fresh, intern, intern_stack, next_one, put_stacks, put_strings, read_all,
+    all, decoder_of, intern, intern_stack, next_one, put_stacks, put_strings,
 };
-use crate::tests::checks::{
-    check_bytes, check_count, check_dump, check_end, check_kept, check_size, check_words,
-};
+use crate::tests::checks::{check_dump, check_end};
 use crate::tests::traces::{HEADER, joined};
 use dial9_trace_format::codec::{PoolEntry, StackPoolEntry};
-use dial9_trace_format::decoder::{DecodedFrame, Decoder, StackPool, StringPool};
+use dial9_trace_format::decoder::{DecodedFrame, StackPool, StringPool};
 use dial9_trace_format::encoder::Encoder;
-use dial9_trace_format::leb128::EncodeError;
 use dial9_trace_format::types::{InternedStackFrames, InternedString};
 use std::alloc::{AllocError, Global};
 use std::process::Abort;
@@ -49,40 +46,19 @@ fn check_stack(rt: &impl Abort, encoder: &mut Encoder, stack: &[u64], id: u32, c
     assert_eq!(rt; encoder.bytes_written(), count);
 }
 
-/// The pool holds the text under its id, which the pool's iterator gives.
-fn check_held_text(
-    rt: &impl Abort,
-    pool: &StringPool,
-    held: (InternedString, &str),
-    wanted: (u32, &str),
-) {
-    assert_eq!(rt; held.0.raw_id(), wanted.0);
-    check_words(rt, held.1, wanted.1);
-    assert_eq!(rt; pool.get(held.0), Some(wanted.1));
-}
-
 /// The pool holds these texts by rising id, and no others.
 fn check_texts(rt: &impl Abort, pool: &StringPool, texts: &[(u32, &str)]) -> Result<(), Fail> {
-    check_size(rt, pool.len(), texts.len());
+    assert_eq!(rt; pool.len(), texts.len());
     let mut held = pool.iter();
     for (id, text) in texts {
-        let found = held.next().ok_or("no text")?;
-        check_held_text(rt, pool, found, (*id, *text));
+        let (held_id, held_text) = held.next().ok_or("no text")?;
+        assert_eq!(rt; held_id.raw_id(), *id);
+        assert_eq!(rt; held_text, *text);
+        assert_eq!(rt; pool.get(held_id), Some(*text));
     }
     assert!(rt; held.next().is_none());
     assert_eq!(rt; pool.get(InternedString::from_raw(7)), None);
     Ok(())
-}
-
-/// After so many frames the decoder's pool holds these texts by rising id, and no others.
-fn check_decoded_texts(
-    rt: &impl Abort,
-    decoder: &mut Decoder<'_>,
-    frames: usize,
-    texts: &[(u32, &str)],
-) -> Result<(), Fail> {
-    check_count(rt, decoder, frames)?;
-    check_texts(rt, (*decoder).string_pool(), texts)
 }
 
 /// The trace has so many frames, and after them its pool holds these texts by rising id, and no others.
@@ -94,43 +70,23 @@ fn check_texts_of(
     texts: &[(u32, &str)],
 ) -> Result<(), Fail> {
     let mut decoder = decoder_of(alloc, bytes)?;
-    check_decoded_texts(rt, &mut decoder, frames, texts)
-}
-
-/// The pool holds the stack under its id, which the pool's iterator gives.
-fn check_held_stack(
-    rt: &impl Abort,
-    pool: &StackPool,
-    held: (InternedStackFrames, &[u64]),
-    wanted: (u32, &[u64]),
-) {
-    assert_eq!(rt; held.0.raw_id(), wanted.0);
-    assert_eq!(rt; held.1, wanted.1);
-    assert_eq!(rt; pool.get(held.0), Some(wanted.1));
+    assert_eq!(rt; all(&mut decoder)?.len(), frames);
+    check_texts(rt, decoder.string_pool(), texts)
 }
 
 /// The pool holds these stacks by rising id, and no others.
 fn check_stacks(rt: &impl Abort, pool: &StackPool, stacks: &[(u32, &[u64])]) -> Result<(), Fail> {
-    check_size(rt, pool.len(), stacks.len());
+    assert_eq!(rt; pool.len(), stacks.len());
     let mut held = pool.iter();
     for (id, stack) in stacks {
-        let found = held.next().ok_or("no stack")?;
-        check_held_stack(rt, pool, found, (*id, *stack));
+        let (held_id, addresses) = held.next().ok_or("no stack")?;
+        assert_eq!(rt; held_id.raw_id(), *id);
+        assert_eq!(rt; addresses, *stack);
+        assert_eq!(rt; pool.get(held_id), Some(*stack));
     }
     assert!(rt; held.next().is_none());
     assert_eq!(rt; pool.get(InternedStackFrames::from_raw(7)), None);
     Ok(())
-}
-
-/// After so many frames the decoder's pool holds these stacks by rising id, and no others.
-fn check_decoded_stacks(
-    rt: &impl Abort,
-    decoder: &mut Decoder<'_>,
-    frames: usize,
-    stacks: &[(u32, &[u64])],
-) -> Result<(), Fail> {
-    check_count(rt, decoder, frames)?;
-    check_stacks(rt, (*decoder).stack_pool(), stacks)
 }
 
 /// The trace has so many frames, and after them its pool holds these stacks by rising id, and no others.
@@ -142,7 +98,8 @@ fn check_stacks_of(
     stacks: &[(u32, &[u64])],
 ) -> Result<(), Fail> {
     let mut decoder = decoder_of(alloc, bytes)?;
-    check_decoded_stacks(rt, &mut decoder, frames, stacks)
+    assert_eq!(rt; all(&mut decoder)?.len(), frames);
+    check_stacks(rt, decoder.stack_pool(), stacks)
 }
 
 /// Writes a pool of one text.
@@ -155,79 +112,50 @@ fn put_text(alloc: Global, encoder: &mut Encoder, id: u32, text: &[u8]) -> Resul
     Ok(())
 }
 
-/// The encoder interns texts, also after a pool that renames one.
-fn intern_texts(rt: &impl Abort, alloc: Global, encoder: &mut Encoder) -> Result<(), Fail> {
-    check_text(rt, encoder, "hello", 0, 23);
-    check_kept(rt, encoder, &HELLO);
-    check_text(rt, encoder, "hello", 0, 23);
-    check_text(rt, encoder, "world", 1, 41);
-    put_text(alloc, encoder, 0, b"b")?;
-    check_text(rt, encoder, "hello", 0, 55);
-    Ok(())
-}
-
 #[test]
 fn interned_texts(rt: HostRuntime) -> Result<(), Fail> {
-    let mut encoder = fresh(rt.alloc())?;
-    intern_texts(&rt, rt.alloc(), &mut encoder)?;
-    let bytes = finished(encoder);
+    let mut encoder = Encoder::new(rt.alloc())?;
+    check_text(&rt, &mut encoder, "hello", 0, 23);
+    assert_eq!(rt; encoder.as_inner().as_slice(), HELLO.as_slice());
+    check_text(&rt, &mut encoder, "hello", 0, 23);
+    check_text(&rt, &mut encoder, "world", 1, 41);
+    put_text(rt.alloc(), &mut encoder, 0, b"b")?;
+    check_text(&rt, &mut encoder, "hello", 0, 55);
+    let bytes = encoder.finish();
     check_texts_of(&rt, rt.alloc(), &bytes, 3, &[(0, "b"), (1, "world")])
-}
-
-/// The encoder interns stacks.
-fn intern_stacks(rt: &impl Abort, encoder: &mut Encoder) {
-    check_stack(rt, encoder, &[], 0, 18);
-    check_kept(rt, encoder, &EMPTY_STACK);
-    check_stack(rt, encoder, &[16, 32], 1, 47);
-    check_stack(rt, encoder, &[], 0, 47);
 }
 
 #[test]
 fn interned_stacks(rt: HostRuntime) -> Result<(), Fail> {
-    let mut encoder = fresh(rt.alloc())?;
-    intern_stacks(&rt, &mut encoder);
-    let bytes = finished(encoder);
+    let mut encoder = Encoder::new(rt.alloc())?;
+    check_stack(&rt, &mut encoder, &[], 0, 18);
+    assert_eq!(rt; encoder.as_inner().as_slice(), EMPTY_STACK.as_slice());
+    check_stack(&rt, &mut encoder, &[16, 32], 1, 47);
+    check_stack(&rt, &mut encoder, &[], 0, 47);
+    let bytes = encoder.finish();
     check_stacks_of(&rt, rt.alloc(), &bytes, 2, &[(0, &[]), (1, &[16, 32])])
-}
-
-/// The entry of a stack.
-fn entry_of(alloc: Global, id: u32, stack: &[u64]) -> Result<StackPoolEntry, AllocError> {
-    Ok(StackPoolEntry {
-        pool_id: id,
-        frames: Vec::from_slice(alloc, stack)?,
-    })
-}
-
-/// The entries of these stacks.
-fn entries_of(alloc: Global, stacks: &[(u32, &[u64])]) -> Result<Vec<StackPoolEntry>, AllocError> {
-    let mut entries = Vec::new(alloc);
-    for (id, stack) in stacks {
-        let entry = entry_of(alloc, *id, *stack)?;
-        entries.push(entry)?;
-    }
-    Ok(entries)
 }
 
 /// What an encoder writes for one pool of these stacks.
 fn stack_pool(alloc: Global, stacks: &[(u32, &[u64])]) -> Result<Vec<u8>, Fail> {
-    let entries = entries_of(alloc, stacks)?;
-    let mut encoder = fresh(alloc)?;
+    let mut entries = Vec::new(alloc);
+    for (id, stack) in stacks {
+        entries.push(StackPoolEntry {
+            pool_id: *id,
+            frames: Vec::from_slice(alloc, *stack)?,
+        })?;
+    }
+    let mut encoder = Encoder::new(alloc)?;
     put_stacks(&mut encoder, &entries)?;
-    Ok(finished(encoder))
+    Ok(encoder.finish())
 }
 
 #[test]
 fn stack_pool_of_three(rt: HostRuntime) -> Result<(), Fail> {
     let stacks: [(u32, &[u64]); 3] = [(0, &[0xaaaa, 0xbbbb, 0xcccc]), (1, &[0x1111]), (2, &[])];
     let bytes = stack_pool(rt.alloc(), &stacks)?;
-    check_size(&rt, bytes.len(), 66);
+    assert_eq!(rt; bytes.len(), 66);
     check_stacks_of(&rt, rt.alloc(), &bytes, 1, &stacks)
-}
-
-/// The entry is these bytes under 0.
-fn check_entry(rt: &impl Abort, entry: &PoolEntry, bytes: &[u8]) {
-    assert_eq!(rt; entry.pool_id, 0);
-    check_bytes(rt, &entry.bytes, bytes);
 }
 
 /// The frame is a string pool of both entries.
@@ -235,24 +163,21 @@ fn check_no_text(rt: &impl Abort, frame: &DecodedFrame) {
     match frame {
         DecodedFrame::StringPool(entries) => {
             assert_eq!(rt; entries.len(), 2);
-            check_entry(rt, &entries[0], b"a");
-            check_entry(rt, &entries[1], &[0xFF]);
+            assert_eq!(rt; entries[0].pool_id, 0);
+            assert_eq!(rt; entries[0].bytes.as_slice(), b"a".as_slice());
+            assert_eq!(rt; entries[1].pool_id, 0);
+            assert_eq!(rt; entries[1].bytes.as_slice(), [0xFFu8].as_slice());
         }
         _ => assert!(rt; false, "another frame"),
     }
-}
-
-/// The decoder gives that frame, and its pool then holds `a` alone.
-fn check_next_pool(rt: &impl Abort, decoder: &mut Decoder<'_>) -> Result<(), Fail> {
-    check_no_text(rt, &next_one(decoder)?);
-    check_texts(rt, (*decoder).string_pool(), &[(0, "a")])
 }
 
 #[test]
 fn entries_that_are_no_text(rt: HostRuntime) -> Result<(), Fail> {
     let bytes = joined(rt.alloc(), &HEADER, &NO_TEXT)?;
     let mut decoder = decoder_of(rt.alloc(), &bytes)?;
-    check_next_pool(&rt, &mut decoder)
+    check_no_text(&rt, &next_one(&mut decoder)?);
+    check_texts(&rt, decoder.string_pool(), &[(0, "a")])
 }
 
 #[test]
@@ -284,45 +209,28 @@ fn claimed_addresses(rt: HostRuntime) -> Result<(), Fail> {
     check_end(&rt, &mut decoder, 5)
 }
 
-/// The pools have as many texts and stacks, this count, after all frames.
-fn check_pools(rt: &impl Abort, decoder: &mut Decoder<'_>, count: usize) -> Result<(), Fail> {
-    read_all(decoder)?;
-    check_size(rt, (*decoder).string_pool().len(), count);
-    check_size(rt, (*decoder).stack_pool().len(), count);
-    Ok(())
-}
-
-/// The same of a decoder of these bytes.
-fn check_pool_sizes(
-    rt: &impl Abort,
-    alloc: Global,
-    bytes: &[u8],
-    count: usize,
-) -> Result<(), Fail> {
+/// How many texts and how many stacks the pools have after all frames.
+fn pool_sizes(alloc: Global, bytes: &[u8]) -> Result<(usize, usize), Fail> {
     let mut decoder = decoder_of(alloc, bytes)?;
-    check_pools(rt, &mut decoder, count)
-}
-
-/// Interns one text and one stack.
-fn put_text_and_stack(encoder: &mut Encoder, text: &str, stack: &[u64]) -> Result<(), EncodeError> {
-    intern(encoder, text)?;
-    intern_stack(encoder, stack)?;
-    Ok(())
+    all(&mut decoder)?;
+    Ok((decoder.string_pool().len(), decoder.stack_pool().len()))
 }
 
 /// What an encoder writes for one text and one stack.
 fn text_and_stack(alloc: Global, text: &str, stack: &[u64]) -> Result<Vec<u8>, Fail> {
-    let mut encoder = fresh(alloc)?;
-    put_text_and_stack(&mut encoder, text, stack)?;
-    Ok(finished(encoder))
+    let mut encoder = Encoder::new(alloc)?;
+    intern(&mut encoder, text)?;
+    intern_stack(&mut encoder, stack)?;
+    Ok(encoder.finish())
 }
 
 #[test]
 fn headers_empty_the_pools(rt: HostRuntime) -> Result<(), Fail> {
     let mut bytes = text_and_stack(rt.alloc(), "io", &[1])?;
-    check_pool_sizes(&rt, rt.alloc(), &bytes, 1)?;
+    assert_eq!(rt; pool_sizes(rt.alloc(), &bytes)?, (1, 1));
     bytes.extend_from_slice(&HEADER)?;
-    check_pool_sizes(&rt, rt.alloc(), &bytes, 0)
+    assert_eq!(rt; pool_sizes(rt.alloc(), &bytes)?, (0, 0));
+    Ok(())
 }
 
 #[test]

@@ -1,33 +1,21 @@
 //! What a decoder gives.
 
-use crate::tests::calls::{all_of, decoder_of, has_header, next_one};
-use crate::tests::checks::{
-    check_all, check_count, check_end, check_ev, check_event, check_place, check_size,
-};
+use crate::tests::calls::{all, all_of, decoder_of, has_header, next_one};
+use crate::tests::checks::{check_all, check_end, check_ev, check_event};
 use crate::tests::traces::{EV_SCHEMA, HEADER, ONE_EVENT, OTHER_EV, joined, written};
 use dial9_trace_format::codec::WireTypeId;
-use dial9_trace_format::decoder::{DecodeError, DecodeErrorKind, DecodedFrame, Decoder};
+use dial9_trace_format::decoder::{DecodeErrorKind, Decoder};
 use std::alloc::{AllocError, Global};
 use std::process::Abort;
 use std::test::Fail;
 
-/// The decoder is at the end of so many bytes, and its version is this one.
-fn check_header(
-    rt: &impl Abort,
-    decoder: &mut Decoder<'_>,
-    length: usize,
-    version: u8,
-) -> Result<(), Fail> {
-    check_end(rt, decoder, length)?;
-    assert_eq!(rt; (*decoder).version(), version);
-    check_size(rt, (*decoder).data_len(), length);
-    Ok(())
-}
-
 /// The bytes are headers alone, the first of this version.
 fn check_streams(rt: &impl Abort, alloc: Global, bytes: &[u8], version: u8) -> Result<(), Fail> {
     let mut decoder = decoder_of(alloc, bytes)?;
-    check_header(rt, &mut decoder, bytes.len(), version)
+    check_end(rt, &mut decoder, bytes.len())?;
+    assert_eq!(rt; decoder.version(), version);
+    assert_eq!(rt; decoder.data_len(), bytes.len());
+    Ok(())
 }
 
 #[test]
@@ -51,28 +39,23 @@ fn no_header(rt: HostRuntime) {
 /// The decoder gives the schema `Ev`, and is then at this place.
 fn check_next_ev(rt: &impl Abort, decoder: &mut Decoder<'_>, place: usize) -> Result<(), Fail> {
     check_ev(rt, &next_one(decoder)?);
-    check_place(rt, decoder, place);
+    assert_eq!(rt; (*decoder).position(), place);
     Ok(())
 }
 
 /// The decoder gives the event at 1,000 with 42, and is then at this place.
 fn check_next_event(rt: &impl Abort, decoder: &mut Decoder<'_>, place: usize) -> Result<(), Fail> {
     check_event(rt, &next_one(decoder)?, 1_000, 42);
-    check_place(rt, decoder, place);
+    assert_eq!(rt; (*decoder).position(), place);
     Ok(())
-}
-
-/// The decoder gives the schema and the event, and then no frame.
-fn check_each(rt: &impl Abort, decoder: &mut Decoder<'_>) -> Result<(), Fail> {
-    check_next_ev(rt, decoder, 19)?;
-    check_next_event(rt, decoder, 26)?;
-    check_end(rt, decoder, 26)
 }
 
 #[test]
 fn one_event_frame_by_frame(rt: HostRuntime) -> Result<(), Fail> {
     let mut decoder = decoder_of(rt.alloc(), &ONE_EVENT)?;
-    check_each(&rt, &mut decoder)
+    check_next_ev(&rt, &mut decoder, 19)?;
+    check_next_event(&rt, &mut decoder, 26)?;
+    check_end(&rt, &mut decoder, 26)
 }
 
 /// How many frames the one event has that is cut after its header, and where they end.
@@ -107,26 +90,13 @@ fn every_cut_of_one_event(rt: HostRuntime) -> Result<(), Fail> {
     Ok(())
 }
 
-/// The frames are the schema and the event.
-fn check_both(rt: &impl Abort, frames: &[DecodedFrame]) {
-    assert_eq!(rt; frames.len(), 2);
-    check_ev(rt, &frames[0]);
-    check_event(rt, &frames[1], 1_000, 42);
-}
-
 #[test]
 fn one_event_at_once(rt: HostRuntime) -> Result<(), Fail> {
     let frames = all_of(rt.alloc(), &ONE_EVENT)?;
-    check_both(&rt, &frames);
+    assert_eq!(rt; frames.len(), 2);
+    check_ev(&rt, &frames[0]);
+    check_event(&rt, &frames[1], 1_000, 42);
     Ok(())
-}
-
-/// Behind the first frame stand these events.
-fn check_events(rt: &impl Abort, frames: &[DecodedFrame], events: &[(u64, u64)]) {
-    for (i, event) in events.iter().enumerate() {
-        assert!(rt; i + 1 < frames.len());
-        check_event(rt, &frames[i + 1], event.0, event.1);
-    }
 }
 
 #[test]
@@ -140,16 +110,11 @@ fn times_come_back(rt: HostRuntime) -> Result<(), Fail> {
     let bytes = written(rt.alloc(), "TS", &events)?;
     check_all(&rt, rt.alloc(), &bytes, 5, 74)?;
     let frames = all_of(rt.alloc(), &bytes)?;
-    check_events(&rt, &frames, &events);
+    for (i, event) in events.iter().enumerate() {
+        assert!(rt; i + 1 < frames.len());
+        check_event(&rt, &frames[i + 1], event.0, event.1);
+    }
     Ok(())
-}
-
-/// The frames are the schema and the event, twice.
-fn check_both_twice(rt: &impl Abort, frames: &[DecodedFrame]) {
-    assert_eq!(rt; frames.len(), 4);
-    check_event(rt, &frames[1], 1_000, 42);
-    check_ev(rt, &frames[2]);
-    check_event(rt, &frames[3], 1_000, 42);
 }
 
 #[test]
@@ -157,7 +122,10 @@ fn two_streams(rt: HostRuntime) -> Result<(), Fail> {
     let bytes = joined(rt.alloc(), &ONE_EVENT, &ONE_EVENT)?;
     check_all(&rt, rt.alloc(), &bytes, 4, 52)?;
     let frames = all_of(rt.alloc(), &bytes)?;
-    check_both_twice(&rt, &frames);
+    assert_eq!(rt; frames.len(), 4);
+    check_event(&rt, &frames[1], 1_000, 42);
+    check_ev(&rt, &frames[2]);
+    check_event(&rt, &frames[3], 1_000, 42);
     Ok(())
 }
 
@@ -171,31 +139,24 @@ fn second_stream_cut_in_its_header(rt: HostRuntime) -> Result<(), Fail> {
 fn check_conflict(rt: &impl Abort, decoder: &mut Decoder<'_>) {
     match decoder.next_frame() {
         Ok(_) => assert!(rt; false, "no conflict"),
-        Err(fault) => check_conflict_told(rt, &fault),
+        Err(fault) => {
+            assert_eq!(rt; fault.pos, 40);
+            assert_eq!(rt; fault.kind, DecodeErrorKind::Conflict(WireTypeId(256)));
+        }
     }
-    check_place(rt, decoder, 40);
-}
-
-/// The fault is that conflict.
-fn check_conflict_told(rt: &impl Abort, fault: &DecodeError) {
-    assert_eq!(rt; fault.pos, 40);
-    assert_eq!(rt; fault.kind, DecodeErrorKind::Conflict(WireTypeId(256)));
-}
-
-/// The decoder gives the schema and the event, the conflict twice, and then no frames.
-fn check_before_conflict(rt: &impl Abort, decoder: &mut Decoder<'_>) -> Result<(), Fail> {
-    check_next_ev(rt, decoder, 19)?;
-    check_next_event(rt, decoder, 26)?;
-    check_conflict(rt, decoder);
-    check_conflict(rt, decoder);
-    check_count(rt, decoder, 0)
+    assert_eq!(rt; (*decoder).position(), 40);
 }
 
 #[test]
 fn conflict(rt: HostRuntime) -> Result<(), Fail> {
     let bytes = joined(rt.alloc(), &ONE_EVENT, &OTHER_EV)?;
     let mut decoder = decoder_of(rt.alloc(), &bytes)?;
-    check_before_conflict(&rt, &mut decoder)
+    check_next_ev(&rt, &mut decoder, 19)?;
+    check_next_event(&rt, &mut decoder, 26)?;
+    check_conflict(&rt, &mut decoder);
+    check_conflict(&rt, &mut decoder);
+    assert_eq!(rt; all(&mut decoder)?.len(), 0);
+    Ok(())
 }
 
 #[test]
@@ -210,12 +171,6 @@ fn same_schema_again(rt: HostRuntime) -> Result<(), Fail> {
     check_all(&rt, rt.alloc(), &bytes, 3, 40)
 }
 
-/// The frames are two, of which the second is an event at 0 with 42.
-fn check_untimed(rt: &impl Abort, frames: &[DecodedFrame]) {
-    assert_eq!(rt; frames.len(), 2);
-    check_event(rt, &frames[1], 0, 42);
-}
-
 #[test]
 fn events_without_times(rt: HostRuntime) -> Result<(), Fail> {
     let bytes = [
@@ -224,7 +179,8 @@ fn events_without_times(rt: HostRuntime) -> Result<(), Fail> {
     ];
     check_all(&rt, rt.alloc(), &bytes, 2, 23)?;
     let frames = all_of(rt.alloc(), &bytes)?;
-    check_untimed(&rt, &frames);
+    assert_eq!(rt; frames.len(), 2);
+    check_event(&rt, &frames[1], 0, 42);
     Ok(())
 }
 
@@ -240,19 +196,13 @@ fn streams_of_the_greatest_id(alloc: Global, count: usize) -> Result<Vec<u8>, Al
     Ok(bytes)
 }
 
-/// Each frame is the schema `Ev`.
-fn check_each_ev(rt: &impl Abort, frames: &[DecodedFrame]) {
-    for frame in frames {
-        check_ev(rt, frame);
-    }
-}
-
 #[test]
 fn many_streams_of_the_greatest_id(rt: HostRuntime) -> Result<(), Fail> {
     let bytes = streams_of_the_greatest_id(rt.alloc(), 2_000)?;
-    check_size(&rt, bytes.len(), 38_000);
+    assert_eq!(rt; bytes.len(), 38_000);
     check_all(&rt, rt.alloc(), &bytes, 2_000, 38_000)?;
-    let frames = all_of(rt.alloc(), &bytes)?;
-    check_each_ev(&rt, &frames);
+    for frame in all_of(rt.alloc(), &bytes)? {
+        check_ev(&rt, &frame);
+    }
     Ok(())
 }

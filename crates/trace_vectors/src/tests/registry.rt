@@ -1,6 +1,5 @@
 //! The registry of schemas.
 
-use crate::tests::checks::{check_id, check_words};
 use dial9_trace_format::codec::WireTypeId;
 use dial9_trace_format::schema::{FieldDef, RegisterError, SchemaEntry, SchemaRegistry};
 use dial9_trace_format::types::FieldType;
@@ -35,12 +34,6 @@ fn next_id(registry: &mut SchemaRegistry) -> Option<u16> {
     Some(id.0)
 }
 
-/// The entry stands under this id, and has this name.
-fn check_entry(rt: &impl Abort, found: (WireTypeId, &SchemaEntry), id: u16, name: &str) {
-    check_id(rt, found.0, id);
-    check_words(rt, found.1.name(), name);
-}
-
 /// The registry holds these names by these ids, in this order, and no others.
 fn check_entries(
     rt: &impl Abort,
@@ -49,8 +42,9 @@ fn check_entries(
 ) -> Result<(), Fail> {
     let mut entries = registry.entries();
     for (id, name) in wanted {
-        let found = entries.next().ok_or("no entry")?;
-        check_entry(rt, found, *id, *name);
+        let (type_id, entry) = entries.next().ok_or("no entry")?;
+        assert_eq!(rt; type_id, WireTypeId(*id));
+        assert_eq!(rt; entry.name(), *name);
     }
     assert!(rt; entries.next().is_none());
     Ok(())

@@ -1,6 +1,5 @@
 //! Resolved events: dumps of them, and the call.
 
-use crate::tests::checks::check_words;
 use crate::tests::traces::{HEADER, ONE_EVENT, OTHER_EV, joined};
 use dial9_trace_format::codec::WireTypeId;
 use dial9_trace_format::decoder::{Decoder, RawEvent};
@@ -155,23 +154,27 @@ fn a_value_without_a_field_is_refused(rt: HostRuntime) -> Result<(), Fail> {
     Ok(())
 }
 
-/// The text of the fault is this one.
-fn check_text(rt: &impl Abort, alloc: Global, fault: DeserError, wanted: &str) -> Result<(), Fail> {
-    let text = format!(in alloc; "{fault}")?;
-    check_words(rt, text.as_str(), wanted);
-    Ok(())
-}
-
 #[test]
 fn texts_of_faults(rt: HostRuntime) -> Result<(), Fail> {
-    let alloc = rt.alloc();
     let text = DeserError::UnknownString(InternedString::from_raw(7));
-    let wanted = "PooledString id pool#7 not found in string pool";
-    check_text(&rt, alloc, text, wanted)?;
     let stack = DeserError::UnknownStack(InternedStackFrames::from_raw(4));
-    let wanted = "PooledStackFrames id stack#4 not found in stack pool";
-    check_text(&rt, alloc, stack, wanted)?;
-    let wanted = "schema has fewer fields than the event";
-    check_text(&rt, alloc, DeserError::SchemaShort, wanted)?;
-    check_text(&rt, alloc, DeserError::OutOfMemory, "out of memory")
+    assert_eq!(rt;
+        format!(in rt.alloc(); "{text}")?.as_str(),
+        "PooledString id pool#7 not found in string pool"
+    );
+    assert_eq!(rt;
+        format!(in rt.alloc(); "{stack}")?.as_str(),
+        "PooledStackFrames id stack#4 not found in stack pool"
+    );
+    let short = DeserError::SchemaShort;
+    assert_eq!(rt;
+        format!(in rt.alloc(); "{short}")?.as_str(),
+        "schema has fewer fields than the event"
+    );
+    let memory = DeserError::OutOfMemory;
+    assert_eq!(rt;
+        format!(in rt.alloc(); "{memory}")?.as_str(),
+        "out of memory"
+    );
+    Ok(())
 }

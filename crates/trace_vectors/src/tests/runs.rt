@@ -1,14 +1,11 @@
 //! Events of fields whose widths are fixed, which stand side by side, cut at each byte.
 
 use crate::tests::borrowed::next_ref;
-use crate::tests::calls::{decoder_of, next_one};
-use crate::tests::checks::{
-    check_all, check_end, check_no_frame, check_number, check_place, check_size,
-};
-use crate::tests::mixed::check_shown;
-use crate::tests::sinks::{Seen, show};
+use crate::tests::calls::{decoder_of, next, next_one};
+use crate::tests::checks::check_all;
+use crate::tests::sinks::Seen;
 use crate::tests::traces::{HEADER, joined};
-use dial9_trace_format::decoder::{DecodeErrorKind, Decoder};
+use dial9_trace_format::decoder::DecodeErrorKind;
 use std::alloc::{AllocError, Global};
 use std::process::Abort;
 use std::test::Fail;
@@ -63,29 +60,6 @@ fn trace(alloc: Global, run: &[Fixed], last: u8, value: &[u8]) -> Result<Vec<u8>
     Ok(bytes)
 }
 
-/// No reader gives a frame, a sink is told this fault, and the place is then as it was.
-fn check_no_event(
-    rt: &impl Abort,
-    decoder: &mut Decoder<'_>,
-    kind: &DecodeErrorKind,
-    pos: usize,
-) -> Result<(), Fail> {
-    let start = Decoder::position(decoder);
-    check_no_frame(rt, decoder)?;
-    assert!(rt; next_ref(decoder)?.is_none());
-    check_shown(rt, decoder, &mut unseen(), kind, pos);
-    check_place(rt, decoder, start);
-    Ok(())
-}
-
-/// A visitor that has seen nothing.
-fn unseen() -> Seen {
-    Seen {
-        events: 0,
-        times: 0,
-    }
-}
-
 /// Behind the schema no reader gives a frame, and a sink is told this fault.
 fn check_cut(
     rt: &impl Abort,
@@ -96,7 +70,17 @@ fn check_cut(
 ) -> Result<(), Fail> {
     let mut decoder = decoder_of(alloc, bytes)?;
     next_one(&mut decoder)?;
-    check_no_event(rt, &mut decoder, kind, pos)
+    let start = decoder.position();
+    assert!(rt; next(&mut decoder)?.is_none());
+    assert!(rt; next_ref(&mut decoder)?.is_none());
+    let mut visitor = Seen {
+        events: 0,
+        times: 0,
+    };
+    let told = decoder.for_each_event(&mut visitor);
+    assert!(rt; matches!(told, Err(error) if error.kind == *kind && error.pos == pos));
+    assert_eq!(rt; decoder.position(), start);
+    Ok(())
 }
 
 /// The event is cut after each byte of its part of this place and width, if any stands, and a sink is told this of the part.
@@ -136,45 +120,23 @@ fn check_run(rt: &impl Abort, alloc: Global, bytes: &[u8], run: &[Fixed]) -> Res
     Ok(place)
 }
 
-/// A reader of borrowed values gives two frames, up to this place.
-fn check_two_borrowed(
-    rt: &impl Abort,
-    decoder: &mut Decoder<'_>,
-    place: usize,
-) -> Result<(), Fail> {
-    assert!(rt; next_ref(decoder)?.is_some());
-    assert!(rt; next_ref(decoder)?.is_some());
-    check_place(rt, decoder, place);
-    Ok(())
-}
-
-/// A visitor is shown one event, up to this place.
-fn check_one_shown(rt: &impl Abort, decoder: &mut Decoder<'_>, place: usize) {
-    let mut visitor = unseen();
-    assert!(rt; show(decoder, &mut visitor).is_ok());
-    check_number(rt, visitor.events, 1);
-    check_place(rt, decoder, place);
-}
-
-/// A visitor of the bytes is shown one event, up to this place.
-fn check_shown_whole(
-    rt: &impl Abort,
-    alloc: Global,
-    bytes: &[u8],
-    place: usize,
-) -> Result<(), Fail> {
-    let mut decoder = decoder_of(alloc, bytes)?;
-    check_one_shown(rt, &mut decoder, place);
-    Ok(())
-}
-
 /// Each reader gives the schema and the event, which ends at this place, the last.
 fn check_whole(rt: &impl Abort, alloc: Global, bytes: &[u8], place: usize) -> Result<(), Fail> {
-    check_size(rt, bytes.len(), place);
+    assert_eq!(rt; bytes.len(), place);
     check_all(rt, alloc, bytes, 2, place)?;
     let mut decoder = decoder_of(alloc, bytes)?;
-    check_two_borrowed(rt, &mut decoder, place)?;
-    check_shown_whole(rt, alloc, bytes, place)
+    assert!(rt; next_ref(&mut decoder)?.is_some());
+    assert!(rt; next_ref(&mut decoder)?.is_some());
+    assert_eq!(rt; decoder.position(), place);
+    let mut visitor = Seen {
+        events: 0,
+        times: 0,
+    };
+    let mut again = decoder_of(alloc, bytes)?;
+    assert!(rt; again.for_each_event(&mut visitor).is_ok());
+    assert_eq!(rt; visitor.events, 1);
+    assert_eq!(rt; again.position(), place);
+    Ok(())
 }
 
 /// The last field is a number of two bytes.
@@ -218,5 +180,7 @@ fn the_field_of_a_run_that_is_cut(rt: HostRuntime) -> Result<(), Fail> {
     check_cut(&rt, rt.alloc(), &BYTE_AND_NUMBER[..28], &cut, 28)?;
     let mut decoder = decoder_of(rt.alloc(), &BYTE_AND_NUMBER)?;
     next_one(&mut decoder)?;
-    check_end(&rt, &mut decoder, 22)
+    assert!(rt; next(&mut decoder)?.is_none());
+    assert_eq!(rt; decoder.position(), 22);
+    Ok(())
 }

@@ -1,12 +1,10 @@
 //! What readers do that show each event to a sink.
 
 use crate::tests::calls::decoder_of;
-use crate::tests::checks::{check_number, check_place};
-use crate::tests::mixed::check_shown;
 use crate::tests::traces::{ONE_EVENT, joined};
 use dial9_trace_format::codec::WireTypeId;
 use dial9_trace_format::decoder::{
-    DecodeError, DecodeErrorKind, Decoder, EventSink, EventVisitor, RawEvent, TryForEachError,
+    DecodeErrorKind, EventSink, EventVisitor, RawEvent, TryForEachError,
 };
 use dial9_trace_format::types::FieldValueRef;
 use std::alloc::Global;
@@ -41,51 +39,7 @@ impl<'a> EventVisitor<'a> for Seen {
     }
 }
 
-/// `Decoder::for_each_event`.
-pub fn show(decoder: &mut Decoder<'_>, visitor: &mut Seen) -> Result<(), DecodeError> {
-    decoder.for_each_event(visitor)
-}
-
-/// `Decoder::try_for_each_event`.
-pub fn try_show(
-    decoder: &mut Decoder<'_>,
-    sink: &mut Adding,
-) -> Result<(), TryForEachError<Unwanted>> {
-    decoder.try_for_each_event(sink)
-}
-
-/// The sink refuses an event of the decoder.
-pub fn check_unwanted(rt: &impl Abort, decoder: &mut Decoder<'_>, sink: &mut Adding) {
-    assert!(rt;
-        matches!(
-            try_show(decoder, sink),
-            Err(TryForEachError::User(Unwanted))
-        )
-    );
-}
-
-/// The visitor was shown so many events, whose times are so much together.
-fn check_seen(rt: &impl Abort, visitor: &Seen, seen: (u64, u64)) {
-    check_number(rt, visitor.events, seen.0);
-    check_number(rt, visitor.times, seen.1);
-}
-
 /// The visitor is shown so many events, whose times are so much together, and then this fault comes.
-fn check_fault_of(
-    rt: &impl Abort,
-    decoder: &mut Decoder<'_>,
-    seen: (u64, u64),
-    fault: &(DecodeErrorKind, usize),
-) {
-    let mut visitor = Seen {
-        events: 0,
-        times: 0,
-    };
-    check_shown(rt, decoder, &mut visitor, &fault.0, fault.1);
-    check_seen(rt, &visitor, seen);
-}
-
-/// The same of a decoder of these bytes, which then stands at this place.
 fn check_fault(
     rt: &impl Abort,
     alloc: Global,
@@ -95,8 +49,20 @@ fn check_fault(
     position: usize,
 ) -> Result<(), Fail> {
     let mut decoder = decoder_of(alloc, bytes)?;
-    check_fault_of(rt, &mut decoder, seen, &fault);
-    check_place(rt, &decoder, position);
+    let mut visitor = Seen {
+        events: 0,
+        times: 0,
+    };
+    match decoder.for_each_event(&mut visitor) {
+        Ok(()) => assert!(rt; false, "no fault"),
+        Err(error) => {
+            assert_eq!(rt; error.kind, fault.0);
+            assert_eq!(rt; error.pos, fault.1);
+        }
+    }
+    assert_eq!(rt; decoder.position(), position);
+    assert_eq!(rt; visitor.events, seen.0);
+    assert_eq!(rt; visitor.times, seen.1);
     Ok(())
 }
 
@@ -224,32 +190,7 @@ impl<'a> EventSink<'a, Unwanted> for Adding {
     }
 }
 
-/// The sink takes all events that are left, whose numbers are so much together.
-fn check_taken(rt: &impl Abort, decoder: &mut Decoder<'_>, total: u64) {
-    let mut sink = Adding { left: 3, total: 0 };
-    assert!(rt; try_show(decoder, &mut sink).is_ok());
-    check_number(rt, sink.total, total);
-}
-
-/// The sink takes so many events of the decoder and refuses the next, which ends at `position`; another then takes the others.
-fn check_refusal_of(
-    rt: &impl Abort,
-    decoder: &mut Decoder<'_>,
-    taken: u8,
-    position: usize,
-    others: u64,
-) {
-    let mut sink = Adding {
-        left: taken,
-        total: 0,
-    };
-    check_unwanted(rt, decoder, &mut sink);
-    check_place(rt, decoder, position);
-    check_taken(rt, decoder, others);
-    check_place(rt, decoder, 40);
-}
-
-/// The same of a decoder of three events.
+/// The sink takes so many events and refuses the next, which ends at `position`; another then takes the others.
 fn check_refusal(
     rt: &impl Abort,
     alloc: Global,
@@ -259,7 +200,18 @@ fn check_refusal(
 ) -> Result<(), Fail> {
     let bytes = joined(alloc, &OPTIONAL, &THREE_EVENTS)?;
     let mut decoder = decoder_of(alloc, &bytes)?;
-    check_refusal_of(rt, &mut decoder, taken, position, others);
+    let mut sink = Adding {
+        left: taken,
+        total: 0,
+    };
+    let refused: Result<(), TryForEachError<Unwanted>> = decoder.try_for_each_event(&mut sink);
+    assert!(rt; matches!(refused, Err(TryForEachError::User(Unwanted))));
+    assert_eq!(rt; decoder.position(), position);
+    let mut rest = Adding { left: 3, total: 0 };
+    let taken: Result<(), TryForEachError<Unwanted>> = decoder.try_for_each_event(&mut rest);
+    assert!(rt; taken.is_ok());
+    assert_eq!(rt; rest.total, others);
+    assert_eq!(rt; decoder.position(), 40);
     Ok(())
 }
 

@@ -1,12 +1,9 @@
 //! The texts of faults.
 
-use crate::tests::checks::check_words;
 use dial9_trace_format::codec::WireTypeId;
 use dial9_trace_format::decoder::{DecodeError, DecodeErrorKind};
 use dial9_trace_format::leb128::EncodeError;
-use std::alloc::Global;
 use std::io::ErrorKind;
-use std::process::Abort;
 use std::test::Fail;
 
 #[test]
@@ -39,24 +36,14 @@ fn faults_of_encoding(rt: HostRuntime) -> Result<(), Fail> {
     Ok(())
 }
 
-/// The text of the fault is this one.
-fn check_kind(
-    rt: &impl Abort,
-    alloc: Global,
-    kind: &DecodeErrorKind,
-    wanted: &str,
-) -> Result<(), Fail> {
-    let text = format!(in alloc; "{kind}")?;
-    check_words(rt, text.as_str(), wanted);
-    Ok(())
-}
-
-/// The kinds of faults that are told of an event, and their texts.
-fn kinds_of_events() -> [(DecodeErrorKind, &'static str); 7] {
-    let unknown = DecodeErrorKind::UnknownTypeId(WireTypeId(7));
-    [
+#[test]
+fn faults_of_decoding(rt: HostRuntime) -> Result<(), Fail> {
+    let cases = [
         (DecodeErrorKind::TruncatedEvent, "truncated event frame"),
-        (unknown, "unknown type_id WireTypeId(7)"),
+        (
+            DecodeErrorKind::UnknownTypeId(WireTypeId(7)),
+            "unknown type_id WireTypeId(7)",
+        ),
         (DecodeErrorKind::TruncatedDelta, "truncated timestamp delta"),
         (DecodeErrorKind::TimestampOverflow, "timestamp overflow"),
         (
@@ -68,12 +55,6 @@ fn kinds_of_events() -> [(DecodeErrorKind, &'static str); 7] {
             "truncated optional field value",
         ),
         (DecodeErrorKind::TruncatedValue, "truncated field value"),
-    ]
-}
-
-/// The other kinds of faults, and their texts.
-fn other_kinds() -> [(DecodeErrorKind, &'static str); 4] {
-    [
         (DecodeErrorKind::TruncatedReset, "truncated timestamp reset"),
         (
             DecodeErrorKind::NoFrame(0x0A),
@@ -84,39 +65,18 @@ fn other_kinds() -> [(DecodeErrorKind, &'static str); 4] {
             "type_id WireTypeId(256) already registered with different schema",
         ),
         (DecodeErrorKind::OutOfMemory, "out of memory"),
-    ]
-}
-
-/// The texts of these faults are these.
-fn check_kinds(
-    rt: &impl Abort,
-    alloc: Global,
-    cases: &[(DecodeErrorKind, &str)],
-) -> Result<(), Fail> {
+    ];
     for (kind, text) in cases {
-        check_kind(rt, alloc, kind, *text)?;
+        assert_eq!(rt; format!(in rt.alloc(); "{kind}")?.as_str(), text);
     }
-    Ok(())
-}
-
-/// The text of a fault with its place.
-fn text_at_40(alloc: Global) -> Result<String, Fail> {
     let fault = DecodeError {
         pos: 40,
         kind: DecodeErrorKind::TruncatedReset,
     };
-    Ok(format!(in alloc; "{fault}")?)
-}
-
-#[test]
-fn faults_of_decoding(rt: HostRuntime) -> Result<(), Fail> {
-    check_kinds(&rt, rt.alloc(), &kinds_of_events())?;
-    check_kinds(&rt, rt.alloc(), &other_kinds())?;
-    let text = text_at_40(rt.alloc())?;
-    check_words(
-        &rt,
+    let text = format!(in rt.alloc(); "{fault}")?;
+    assert_eq!(rt;
         text.as_str(),
-        "decode error at byte 40: truncated timestamp reset",
+        "decode error at byte 40: truncated timestamp reset"
     );
     Ok(())
 }

@@ -1,6 +1,5 @@
 //! Scripts of writers that fail, and what such a writer tells.
 
-use crate::tests::checks::check_bytes;
 use dial9_trace_format::leb128::Faults;
 use std::io::ErrorKind;
 use std::process::Abort;
@@ -57,7 +56,7 @@ pub fn kind_of(script: Script) -> ErrorKind {
 
 /// The writer tells these bytes, these faults, and whether it is settled.
 pub fn check_told(rt: &impl Abort, told: &Told, bytes: &[u8], faults: Faults, settled: bool) {
-    check_bytes(rt, told.bytes(), bytes);
+    assert_eq!(rt; told.bytes(), bytes);
     assert_eq!(rt; told.faults(), faults);
     assert_eq!(rt; told.is_settled(), settled);
 }

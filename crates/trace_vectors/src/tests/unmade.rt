@@ -1,7 +1,6 @@
 //! Events of a type that is known: no schema is made for them.
 
-use crate::tests::calls::{fresh, put};
-use crate::tests::checks::{check_fault, check_number, check_written};
+use crate::tests::calls::put;
 use dial9_trace_format::encoder::Encoder;
 use dial9_trace_format::leb128::EncodeError;
 use dial9_trace_format::schema::{FieldDef, SchemaEntry};
@@ -56,41 +55,7 @@ impl<T: TraceEvent + Drop> TraceEvent for Unmade<T> {
     }
 }
 
-/// The encoder does not know the type, and refuses an event of it, of which no schema can be made.
-fn check_unknown<T: TraceEvent>(rt: &impl Abort, encoder: &mut Encoder, unmade: &T) {
-    check_fault(rt, put(encoder, unmade).err(), EncodeError::OutOfMemory);
-    check_written(rt, encoder, 5);
-}
-
-/// The encoder knows the type, and writes two such events of so many bytes together.
-fn put_twice<T: TraceEvent>(
-    rt: &impl Abort,
-    encoder: &mut Encoder,
-    unmade: &T,
-    length: u64,
-) -> Result<(), EncodeError> {
-    let before = encoder.bytes_written();
-    put(encoder, unmade)?;
-    put(encoder, unmade)?;
-    check_number(rt, encoder.bytes_written().saturating_sub(before), length);
-    Ok(())
-}
-
 /// Before the type is known the event is refused, and nothing is written; after it two such events are written.
-fn check_known_by<T: TraceEvent + Drop>(
-    rt: &impl Abort,
-    encoder: &mut Encoder,
-    event: &T,
-    unmade: &Unmade<T>,
-    length: u64,
-) -> Result<(), Fail> {
-    check_unknown(rt, encoder, unmade);
-    put(encoder, event)?;
-    put_twice(rt, encoder, unmade, length)?;
-    Ok(())
-}
-
-/// The same of a new encoder.
 fn check_known<T: TraceEvent + Drop>(
     rt: &impl Abort,
     alloc: Global,
@@ -98,8 +63,16 @@ fn check_known<T: TraceEvent + Drop>(
     unmade: &Unmade<T>,
     length: u64,
 ) -> Result<(), Fail> {
-    let mut encoder = fresh(alloc)?;
-    check_known_by(rt, &mut encoder, event, unmade, length)
+    let mut encoder = Encoder::new(alloc)?;
+    let refused = put(&mut encoder, unmade);
+    assert!(rt; refused == Err(EncodeError::OutOfMemory));
+    assert_eq!(rt; encoder.bytes_written(), 5);
+    put(&mut encoder, event)?;
+    let before = encoder.bytes_written();
+    put(&mut encoder, unmade)?;
+    put(&mut encoder, unmade)?;
+    assert_eq!(rt; encoder.bytes_written().saturating_sub(before), length);
+    Ok(())
 }
 
 #[test]

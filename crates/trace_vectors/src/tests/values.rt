@@ -1,6 +1,5 @@
 //! Values alone: their spelling by their own kind, and reading them back.
 
-use crate::tests::checks::{check_bytes, check_size};
 use crate::tests::traces::{joined, nested_lists};
 use dial9_trace_format::leb128::EncodeError;
 use dial9_trace_format::types::{
@@ -25,21 +24,9 @@ fn check_both_ways(
     value: &FieldValue,
     bytes: &[u8],
 ) -> Result<(), Fail> {
-    check_spelled(rt, alloc, value, bytes)?;
+    let out = encoded(alloc, value)?;
+    assert_eq!(rt; out.as_slice(), bytes);
     check_read(rt, alloc, field_type, value, bytes)
-}
-
-/// Both readers read the value from all bytes but one.
-fn check_readers(
-    rt: &impl Abort,
-    alloc: Global,
-    field_type: FieldType,
-    value: &FieldValue,
-    bytes: &[u8],
-) -> Result<(), Fail> {
-    let more = joined(alloc, bytes, &[0xFF])?;
-    check_owned(rt, alloc, field_type, value, &more)?;
-    check_borrowed(rt, alloc, field_type, value, &more)
 }
 
 /// Both readers read the value from the bytes, whatever follows, and nothing from a proper front of them.
@@ -50,7 +37,9 @@ fn check_read(
     value: &FieldValue,
     bytes: &[u8],
 ) -> Result<(), Fail> {
-    check_readers(rt, alloc, field_type, value, bytes)?;
+    let more = joined(alloc, bytes, &[0xFF])?;
+    check_owned(rt, alloc, field_type, value, &more)?;
+    check_borrowed(rt, alloc, field_type, value, &more)?;
     for cut in 0..bytes.len() {
         check_none(rt, alloc, field_type, &bytes[..cut])?;
     }
@@ -102,234 +91,219 @@ fn pair(alloc: Global, key: &[u8], value: &[u8]) -> Result<(Vec<u8>, Vec<u8>), A
     Ok((Vec::from_slice(alloc, key)?, Vec::from_slice(alloc, value)?))
 }
 
-/// A signed number and a float, of eight bytes each.
-fn check_eight_bytes(rt: &impl Abort, alloc: Global) -> Result<(), Fail> {
-    let minus_two = [0xFE, 0xFF, 0xFF, 0xFF, 0xFF, 0xFF, 0xFF, 0xFF];
-    check_both_ways(rt, alloc, FieldType::I64, &FieldValue::I64(-2), &minus_two)?;
-    let half = [0x00, 0x00, 0x00, 0x00, 0x00, 0x00, 0xE0, 0x3F];
-    let value = FieldValue::F64(0x3FE0_0000_0000_0000);
-    check_both_ways(rt, alloc, FieldType::F64, &value, &half)
-}
-
-/// Truths, of which any byte but 0 is one.
-fn check_truths(rt: &impl Abort, alloc: Global) -> Result<(), Fail> {
-    let (yes, no) = (FieldValue::Bool(true), FieldValue::Bool(false));
-    check_both_ways(rt, alloc, FieldType::Bool, &yes, &[0x01])?;
-    check_both_ways(rt, alloc, FieldType::Bool, &no, &[0x00])?;
-    check_read(rt, alloc, FieldType::Bool, &yes, &[0x02])?;
-    check_read(rt, alloc, FieldType::OptionalBool, &yes, &[0xFF])
-}
-
-/// Numbers of open width and of one, two and four bytes.
-fn check_numbers(rt: &impl Abort, alloc: Global) -> Result<(), Fail> {
-    let number = FieldValue::Varint(300);
-    check_both_ways(rt, alloc, FieldType::Varint, &number, &[0xAC, 0x02])?;
-    check_read(rt, alloc, FieldType::U8, &FieldValue::Varint(7), &[0x07])?;
-    check_read(rt, alloc, FieldType::U16, &number, &[0x2C, 0x01])?;
-    let wide = [0x02, 0x01, 0x00, 0x00];
-    check_read(rt, alloc, FieldType::U32, &FieldValue::Varint(258), &wide)
-}
-
-/// Ids of a text and of a stack.
-fn check_ids(rt: &impl Abort, alloc: Global) -> Result<(), Fail> {
-    let text = FieldValue::PooledString(InternedString::from_raw(7));
-    let seven = [0x07, 0x00, 0x00, 0x00];
-    check_both_ways(rt, alloc, FieldType::PooledString, &text, &seven)?;
-    let stack = FieldValue::PooledStackFrames(InternedStackFrames::from_raw(8));
-    let eight = [0x08, 0x00, 0x00, 0x00];
-    check_both_ways(rt, alloc, FieldType::PooledStackFrames, &stack, &eight)
-}
-
 #[test]
 fn scalars(rt: HostRuntime) -> Result<(), Fail> {
-    check_eight_bytes(&rt, rt.alloc())?;
-    check_truths(&rt, rt.alloc())?;
-    check_numbers(&rt, rt.alloc())?;
-    check_ids(&rt, rt.alloc())
-}
-
-/// The text `hi`, counted.
-const COUNTED: [u8; 6] = [0x02, 0x00, 0x00, 0x00, 0x68, 0x69];
-
-/// That text is spelled and read.
-fn check_text(rt: &impl Abort, alloc: Global) -> Result<(), Fail> {
-    let text = FieldValue::string(alloc, "hi")?;
-    check_both_ways(rt, alloc, FieldType::String, &text, &COUNTED)
-}
-
-/// Its bytes are spelled and read.
-fn check_bytes_of_text(rt: &impl Abort, alloc: Global) -> Result<(), Fail> {
-    let bytes = FieldValue::Bytes(Vec::from_slice(alloc, &[0x68, 0x69])?);
-    check_both_ways(rt, alloc, FieldType::Bytes, &bytes, &COUNTED)
+    let alloc = rt.alloc();
+    let minus_two = [0xFE, 0xFF, 0xFF, 0xFF, 0xFF, 0xFF, 0xFF, 0xFF];
+    check_both_ways(&rt, alloc, FieldType::I64, &FieldValue::I64(-2), &minus_two)?;
+    let half = [0x00, 0x00, 0x00, 0x00, 0x00, 0x00, 0xE0, 0x3F];
+    check_both_ways(
+        &rt,
+        alloc,
+        FieldType::F64,
+        &FieldValue::F64(0x3FE0_0000_0000_0000),
+        &half,
+    )?;
+    check_both_ways(
+        &rt,
+        alloc,
+        FieldType::Bool,
+        &FieldValue::Bool(true),
+        &[0x01],
+    )?;
+    check_both_ways(
+        &rt,
+        alloc,
+        FieldType::Bool,
+        &FieldValue::Bool(false),
+        &[0x00],
+    )?;
+    check_read(
+        &rt,
+        alloc,
+        FieldType::Bool,
+        &FieldValue::Bool(true),
+        &[0x02],
+    )?;
+    check_read(
+        &rt,
+        alloc,
+        FieldType::OptionalBool,
+        &FieldValue::Bool(true),
+        &[0xFF],
+    )?;
+    check_both_ways(
+        &rt,
+        alloc,
+        FieldType::Varint,
+        &FieldValue::Varint(300),
+        &[0xAC, 0x02],
+    )?;
+    check_read(&rt, alloc, FieldType::U8, &FieldValue::Varint(7), &[0x07])?;
+    check_read(
+        &rt,
+        alloc,
+        FieldType::U16,
+        &FieldValue::Varint(300),
+        &[0x2C, 0x01],
+    )?;
+    check_read(
+        &rt,
+        alloc,
+        FieldType::U32,
+        &FieldValue::Varint(258),
+        &[0x02, 0x01, 0x00, 0x00],
+    )?;
+    let text = FieldValue::PooledString(InternedString::from_raw(7));
+    check_both_ways(
+        &rt,
+        alloc,
+        FieldType::PooledString,
+        &text,
+        &[0x07, 0x00, 0x00, 0x00],
+    )?;
+    let stack = FieldValue::PooledStackFrames(InternedStackFrames::from_raw(8));
+    check_both_ways(
+        &rt,
+        alloc,
+        FieldType::PooledStackFrames,
+        &stack,
+        &[0x08, 0x00, 0x00, 0x00],
+    )
 }
 
 #[test]
 fn texts_and_bytes(rt: HostRuntime) -> Result<(), Fail> {
-    check_text(&rt, rt.alloc())?;
-    check_bytes_of_text(&rt, rt.alloc())
-}
-
-/// The map of `k` to `v`.
-fn map_of_texts(alloc: Global) -> Result<FieldValue, AllocError> {
-    let pair = pair(alloc, b"k", b"v")?;
-    Ok(FieldValue::StringMap(vec![in alloc; pair]?))
-}
-
-/// The stack of 16 alone.
-fn stack_of_16(alloc: Global) -> Result<FieldValue, AllocError> {
-    Ok(FieldValue::StackFrames(StackFrames::from_slice(alloc, &[0x10])?))
-}
-
-/// That map is spelled and read.
-fn check_map_of_texts(rt: &impl Abort, alloc: Global) -> Result<(), Fail> {
-    let spelled = [
-        0x01, 0x00, 0x00, 0x00, 0x01, 0x00, 0x00, 0x00, 0x6B, 0x01, 0x00, 0x00, 0x00, 0x76,
-    ];
-    let value = map_of_texts(alloc)?;
-    check_both_ways(rt, alloc, FieldType::StringMap, &value, &spelled)
-}
-
-/// That stack is spelled and read.
-fn check_stack_of_16(rt: &impl Abort, alloc: Global) -> Result<(), Fail> {
-    let addresses = [
-        0x01, 0x00, 0x00, 0x00, 0x10, 0x00, 0x00, 0x00, 0x00, 0x00, 0x00, 0x00,
-    ];
-    let value = stack_of_16(alloc)?;
-    check_both_ways(rt, alloc, FieldType::StackFrames, &value, &addresses)
+    let alloc = rt.alloc();
+    let text = FieldValue::string(alloc, "hi")?;
+    let counted = [0x02, 0x00, 0x00, 0x00, 0x68, 0x69];
+    check_both_ways(&rt, alloc, FieldType::String, &text, &counted)?;
+    let bytes = FieldValue::Bytes(Vec::from_slice(alloc, &[0x68, 0x69])?);
+    check_both_ways(&rt, alloc, FieldType::Bytes, &bytes, &counted)
 }
 
 #[test]
 fn maps_of_texts_and_addresses(rt: HostRuntime) -> Result<(), Fail> {
-    check_map_of_texts(&rt, rt.alloc())?;
-    check_stack_of_16(&rt, rt.alloc())
-}
-
-/// The list of the number 300 and the text `a`.
-fn number_and_text(alloc: Global) -> Result<FieldValue, Fail> {
-    let text = FieldValue::string(alloc, "a")?;
-    Ok(FieldValue::List(vec![in alloc; FieldValue::Varint(300), text]?))
-}
-
-/// The map of a truth to the empty list.
-fn truth_to_list(alloc: Global) -> Result<FieldValue, AllocError> {
-    let pair = (FieldValue::Bool(true), FieldValue::List(Vec::new(alloc)));
-    Ok(FieldValue::Map(vec![in alloc; pair]?))
-}
-
-/// That list is spelled and read, with tags.
-fn check_tagged_list(rt: &impl Abort, alloc: Global) -> Result<(), Fail> {
+    let alloc = rt.alloc();
+    let mut pairs = Vec::new(alloc);
+    pairs.push(pair(alloc, b"k", b"v")?)?;
     let spelled = [
-        0x02, 0x00, 0x00, 0x00, 0x09, 0xAC, 0x02, 0x04, 0x01, 0x00, 0x00, 0x00, 0x61,
+        0x01, 0x00, 0x00, 0x00, 0x01, 0x00, 0x00, 0x00, 0x6B, 0x01, 0x00, 0x00, 0x00, 0x76,
     ];
-    let value = number_and_text(alloc)?;
-    check_both_ways(rt, alloc, FieldType::DynamicList, &value, &spelled)
-}
-
-/// That map is spelled and read, with tags.
-fn check_tagged_map(rt: &impl Abort, alloc: Global) -> Result<(), Fail> {
-    let spelled = [
-        0x01, 0x00, 0x00, 0x00, 0x03, 0x01, 0x0E, 0x00, 0x00, 0x00, 0x00,
+    check_both_ways(
+        &rt,
+        alloc,
+        FieldType::StringMap,
+        &FieldValue::StringMap(pairs),
+        &spelled,
+    )?;
+    let frames = StackFrames::from_slice(alloc, &[0x10])?;
+    let addresses = [
+        0x01, 0x00, 0x00, 0x00, 0x10, 0x00, 0x00, 0x00, 0x00, 0x00, 0x00, 0x00,
     ];
-    let value = truth_to_list(alloc)?;
-    check_both_ways(rt, alloc, FieldType::DynamicMap, &value, &spelled)
+    let value = FieldValue::StackFrames(frames);
+    check_both_ways(&rt, alloc, FieldType::StackFrames, &value, &addresses)
 }
 
 #[test]
 fn lists_and_maps_with_tags(rt: HostRuntime) -> Result<(), Fail> {
-    check_tagged_list(&rt, rt.alloc())?;
-    check_tagged_map(&rt, rt.alloc())
-}
-
-/// The list of this value alone.
-fn list_of(alloc: Global, value: FieldValue) -> Result<FieldValue, AllocError> {
-    Ok(FieldValue::List(vec![in alloc; value]?))
-}
-
-/// The list of this value alone is read from the bytes.
-fn check_list_of(
-    rt: &impl Abort,
-    alloc: Global,
-    value: FieldValue,
-    bytes: &[u8],
-) -> Result<(), Fail> {
-    let list = list_of(alloc, value)?;
-    check_read(rt, alloc, FieldType::DynamicList, &list, bytes)
-}
-
-/// No list is read from the bytes.
-fn check_no_list(rt: &impl Abort, alloc: Global, bytes: &[u8]) -> Result<(), Fail> {
-    check_none(rt, alloc, FieldType::DynamicList, bytes)
+    let alloc = rt.alloc();
+    let mut items = Vec::new(alloc);
+    items.push(FieldValue::Varint(300))?;
+    items.push(FieldValue::string(alloc, "a")?)?;
+    let spelled = [
+        0x02, 0x00, 0x00, 0x00, 0x09, 0xAC, 0x02, 0x04, 0x01, 0x00, 0x00, 0x00, 0x61,
+    ];
+    check_both_ways(
+        &rt,
+        alloc,
+        FieldType::DynamicList,
+        &FieldValue::List(items),
+        &spelled,
+    )?;
+    let mut pairs = Vec::new(alloc);
+    pairs.push((FieldValue::Bool(true), FieldValue::List(Vec::new(alloc))))?;
+    let spelled = [
+        0x01, 0x00, 0x00, 0x00, 0x03, 0x01, 0x0E, 0x00, 0x00, 0x00, 0x00,
+    ];
+    check_both_ways(
+        &rt,
+        alloc,
+        FieldType::DynamicMap,
+        &FieldValue::Map(pairs),
+        &spelled,
+    )
 }
 
 #[test]
 fn optional_tags_inside_a_list(rt: HostRuntime) -> Result<(), Fail> {
+    let alloc = rt.alloc();
+    let mut items = Vec::new(alloc);
+    items.push(FieldValue::I64(42))?;
+    let list = FieldValue::List(items);
     let optional = [
         0x01, 0x00, 0x00, 0x00, 0x81, 0x2A, 0x00, 0x00, 0x00, 0x00, 0x00, 0x00, 0x00,
     ];
-    check_list_of(&rt, rt.alloc(), FieldValue::I64(42), &optional)?;
-    check_no_list(&rt, rt.alloc(), &[0x01, 0x00, 0x00, 0x00, 0x00])?;
-    check_no_list(&rt, rt.alloc(), &[0x01, 0x00, 0x00, 0x00, 0x10, 0x00])?;
+    check_read(&rt, alloc, FieldType::DynamicList, &list, &optional)?;
+    check_none(
+        &rt,
+        alloc,
+        FieldType::DynamicList,
+        &[0x01, 0x00, 0x00, 0x00, 0x00],
+    )?;
+    check_none(
+        &rt,
+        alloc,
+        FieldType::DynamicList,
+        &[0x01, 0x00, 0x00, 0x00, 0x10, 0x00],
+    )?;
+    let mut items = Vec::new(alloc);
+    items.push(FieldValue::Varint(300))?;
     let small = [0x01, 0x00, 0x00, 0x00, 0x0C, 0x2C, 0x01];
-    check_list_of(&rt, rt.alloc(), FieldValue::Varint(300), &small)
-}
-
-/// The value is spelled so by its own kind.
-fn check_spelled(
-    rt: &impl Abort,
-    alloc: Global,
-    value: &FieldValue,
-    bytes: &[u8],
-) -> Result<(), EncodeError> {
-    let out = encoded(alloc, value)?;
-    check_bytes(rt, &out, bytes);
-    Ok(())
+    check_read(
+        &rt,
+        alloc,
+        FieldType::DynamicList,
+        &FieldValue::List(items),
+        &small,
+    )
 }
 
 #[test]
 fn absent_values(rt: HostRuntime) -> Result<(), Fail> {
-    check_spelled(&rt, rt.alloc(), &FieldValue::None, &[0x00])?;
-    let list = list_of(rt.alloc(), FieldValue::None)?;
+    let alloc = rt.alloc();
+    assert_eq!(rt;
+        encoded(alloc, &FieldValue::None)?.as_slice(),
+        [0x00].as_slice()
+    );
+    let mut items = Vec::new(alloc);
+    items.push(FieldValue::None)?;
     let spelled = [0x01, 0x00, 0x00, 0x00, 0x00, 0x00];
-    check_spelled(&rt, rt.alloc(), &list, &spelled)?;
+    assert_eq!(rt;
+        encoded(alloc, &FieldValue::List(items))?.as_slice(),
+        spelled.as_slice()
+    );
     assert_eq!(rt; FieldValue::None.field_type_tag(), 0);
     assert_eq!(rt; FieldValue::Varint(1).field_type_tag(), 9);
     Ok(())
 }
 
-/// The deepest list is read from its spelling.
-fn check_deep(rt: &impl Abort, alloc: Global) -> Result<(), Fail> {
-    let deep = nested_lists(alloc, 33, false)?;
-    let spelled = encoded(alloc, &deep)?;
-    check_read(rt, alloc, FieldType::DynamicList, &deep, &spelled)
-}
-
-/// The list of this depth is not read from its spelling.
-fn check_too_deep(rt: &impl Abort, alloc: Global, depth: usize, filled: bool) -> Result<(), Fail> {
-    let deep = nested_lists(alloc, depth, filled)?;
-    let spelled = encoded(alloc, &deep)?;
-    check_no_list(rt, alloc, &spelled)
-}
-
 #[test]
 fn greatest_depth(rt: HostRuntime) -> Result<(), Fail> {
-    check_deep(&rt, rt.alloc())?;
-    check_too_deep(&rt, rt.alloc(), 34, false)?;
-    check_too_deep(&rt, rt.alloc(), 33, true)
-}
-
-/// The text of these bytes is this one to the reader of owned values.
-fn check_replaced(rt: &impl Abort, alloc: Global, bytes: &[u8], text: &str) -> Result<(), Fail> {
-    let (value, rest) = FieldValue::decode(alloc, FieldType::String, bytes)?.ok_or("no value")?;
-    check_size(rt, rest.len(), 0);
-    let wanted = FieldValue::string(alloc, text)?;
-    assert!(rt; value == wanted);
-    Ok(())
-}
-
-/// The reader of borrowed values reads no text from the bytes.
-fn check_no_text(rt: &impl Abort, alloc: Global, bytes: &[u8]) -> Result<(), Fail> {
-    assert!(rt; FieldValueRef::decode(alloc, FieldType::String, bytes, 0)?.is_none());
-    Ok(())
+    let alloc = rt.alloc();
+    let deep = nested_lists(alloc, 33, false)?;
+    let spelled = encoded(alloc, &deep)?;
+    check_read(
+        &rt,
+        alloc,
+        FieldType::DynamicList,
+        &deep,
+        spelled.as_slice(),
+    )?;
+    let deeper = encoded(alloc, &nested_lists(alloc, 34, false)?)?;
+    check_none(&rt, alloc, FieldType::DynamicList, deeper.as_slice())?;
+    let filled = encoded(alloc, &nested_lists(alloc, 33, true)?)?;
+    check_none(&rt, alloc, FieldType::DynamicList, filled.as_slice())
 }
 
 #[test]
@@ -347,8 +321,10 @@ fn replaced_bytes(rt: HostRuntime) -> Result<(), Fail> {
         (&[0x02, 0x00, 0x00, 0x00, 0xC0, 0x80], "\u{FFFD}\u{FFFD}"),
     ];
     for (bytes, text) in cases {
-        check_replaced(&rt, alloc, bytes, text)?;
-        check_no_text(&rt, alloc, bytes)?;
+        let (value, rest) = FieldValue::decode(alloc, FieldType::String, bytes)?.ok_or("no value")?;
+        assert!(rt; value == FieldValue::string(alloc, text)?);
+        assert_eq!(rt; rest.len(), 0);
+        assert!(rt; FieldValueRef::decode(alloc, FieldType::String, bytes, 0)?.is_none());
     }
     Ok(())
 }

@@ -1,6 +1,5 @@
 //! Encoders over a writer that fails: what was answered, and what the writer tells of it.
 
-use crate::tests::checks::{check_fault, check_number};
 use crate::tests::told::{KINDS, breaking, check_told, kind_of, once, stepping, unsettling};
 use crate::tests::traces::{ONE_EVENT, ev, one_definition};
 use dial9_trace_format::codec::{PoolEntry, StackPoolEntry};
@@ -164,38 +163,18 @@ fn check_stopped(
     check_failed(rt, alloc, encoder, sent, kind);
 }
 
-/// No encoder is made, since the writer fails at this place of the header.
-fn check_unmade(rt: &impl Abort, fault: EncodeError, script: Script) {
-    assert!(rt; script.place < 5);
-    assert_eq!(rt; fault, EncodeError::Writer(kind_of(script)));
-}
-
-/// An encoder over a writer of this script.
-fn encoder_to(alloc: Global, script: Script) -> Result<Encoder<Told>, EncodeError> {
-    Encoder::new_to(alloc, Told::new(script))
-}
-
 /// The call over a writer of this script, on a new encoder.
 fn check_work(rt: &impl Abort, alloc: Global, work: Work, script: Script) {
-    match encoder_to(alloc, script) {
-        Err(fault) => check_unmade(rt, fault, script),
+    match Encoder::new_to(alloc, Told::new(script)) {
+        Err(fault) => {
+            assert!(rt; script.place < 5);
+            assert_eq!(rt; fault, EncodeError::Writer(kind_of(script)));
+        }
         Ok(mut encoder) => {
             assert!(rt; script.place >= 5);
             check_stopped(rt, alloc, &mut encoder, work, script);
         }
     }
-}
-
-/// The call is made by the encoder, which has then sent all.
-fn check_all_sent(
-    rt: &impl Abort,
-    alloc: Global,
-    encoder: &mut Encoder<Told>,
-    work: Work,
-) -> Result<(), EncodeError> {
-    make(alloc, encoder, work)?;
-    check_sent(rt, encoder, trace_of(work), Faults::NoFault);
-    Ok(())
 }
 
 /// The call over writers that fail at each place of what it sends, each way, always and once, in steps of this size.
@@ -218,16 +197,11 @@ fn each_call_stops_where_the_writer_fails(rt: HostRuntime) {
 }
 
 /// The call over a writer that takes so many bytes at a time.
-fn check_whole(rt: &impl Abort, alloc: Global, work: Work, step: usize) -> Result<(), EncodeError> {
-    let mut encoder = encoder_to(alloc, stepping(step))?;
-    check_all_sent(rt, alloc, &mut encoder, work)
-}
-
-/// The call stops where the writer fails, after eight bytes.
-fn check_eight(rt: &impl Abort, alloc: Global, encoder: &mut Encoder<Told>) {
-    let fault = make(alloc, encoder, Work::RegisterExisting).err();
-    check_fault(rt, fault, EncodeError::Writer(ErrorKind::BrokenPipe));
-    check_number(rt, encoder.bytes_written(), 8);
+fn check_whole(rt: &impl Abort, alloc: Global, work: Work, step: usize) -> Result<(), Fail> {
+    let mut encoder = Encoder::new_to(alloc, Told::new(stepping(step)))?;
+    make(alloc, &mut encoder, work)?;
+    check_sent(rt, &encoder, trace_of(work), Faults::NoFault);
+    Ok(())
 }
 
 #[test]
@@ -243,8 +217,10 @@ fn each_call_sends_all_in_any_steps(rt: HostRuntime) -> Result<(), Fail> {
 #[test]
 fn writer_fails_after_eight_bytes(rt: HostRuntime) -> Result<(), Fail> {
     let script = breaking(3, 8, Refusal::Error(ErrorKind::BrokenPipe));
-    let mut encoder = encoder_to(rt.alloc(), script)?;
-    check_eight(&rt, rt.alloc(), &mut encoder);
+    let mut encoder = Encoder::new_to(rt.alloc(), Told::new(script))?;
+    let answer = make(rt.alloc(), &mut encoder, Work::RegisterExisting);
+    assert_eq!(rt; answer, Err(EncodeError::Writer(ErrorKind::BrokenPipe)));
+    assert_eq!(rt; encoder.bytes_written(), 8);
     let told = encoder.into_inner();
     let sent = [0x54, 0x52, 0x43, 0x00, 0x01, 0x01, 0x00, 0x01];
     check_told(
@@ -257,23 +233,13 @@ fn writer_fails_after_eight_bytes(rt: HostRuntime) -> Result<(), Fail> {
     Ok(())
 }
 
-/// The encoder makes the call twice, and its writer told no fault.
-fn make_twice(
-    rt: &impl Abort,
-    alloc: Global,
-    encoder: &mut Encoder<Told>,
-    work: Work,
-) -> Result<(), EncodeError> {
-    make(alloc, encoder, work)?;
-    make(alloc, encoder, work)?;
-    assert_eq!(rt; encoder.as_inner().faults(), Faults::NoFault);
-    Ok(())
-}
-
 /// The call settles nothing, nor does it where all is known: the writer would fail then.
 fn check_unsettled(rt: &impl Abort, alloc: Global, work: Work) -> Result<(), EncodeError> {
-    let mut encoder = encoder_to(alloc, unsettling(ErrorKind::StorageFull))?;
-    make_twice(rt, alloc, &mut encoder, work)
+    let mut encoder = Encoder::new_to(alloc, Told::new(unsettling(ErrorKind::StorageFull)))?;
+    make(alloc, &mut encoder, work)?;
+    make(alloc, &mut encoder, work)?;
+    assert_eq!(rt; encoder.as_inner().faults(), Faults::NoFault);
+    Ok(())
 }
 
 #[test]

@@ -3,9 +3,7 @@
 use crate::tests::ample::borrowed::{check_at_once, check_events};
 use crate::tests::ample::traces::{check_trace, check_whole_dump};
 use crate::tests::ample::{COUNTS, MILLION, SIZES, spelled_length, text, value};
-use crate::tests::calls::{decoder_of, finished, fresh, intern, put};
-use crate::tests::checks;
-use crate::tests::checks::check_number;
+use crate::tests::calls::{all_of, intern, put};
 use dial9_trace_format::TraceEvent;
 use dial9_trace_format::encoder::Encoder;
 use dial9_trace_format::leb128::EncodeError;
@@ -20,29 +18,13 @@ use trace_samples::events::{
     Texts, Wide,
 };
 
-/// Writes so many of the event.
-fn put_events<T: TraceEvent>(
-    encoder: &mut Encoder,
-    event: &T,
-    count: usize,
-) -> Result<(), EncodeError> {
-    for _ in 0..count {
-        put(encoder, event)?;
-    }
-    Ok(())
-}
-
 /// What an encoder writes for so many events.
 fn events<T: TraceEvent>(alloc: Global, event: &T, count: usize) -> Result<Vec<u8>, EncodeError> {
-    let mut encoder = fresh(alloc)?;
-    put_events(&mut encoder, event, count)?;
-    Ok(finished(encoder))
-}
-
-/// How many bytes a trace has of so many events of this length, and a schema of that length.
-fn length_of(schema: u64, each: u64, count: usize) -> u64 {
-    let all = each.saturating_mul(count as u64);
-    all.saturating_add(schema).saturating_add(5)
+    let mut encoder = Encoder::new(alloc)?;
+    for _ in 0..count {
+        put(&mut encoder, event)?;
+    }
+    Ok(encoder.finish())
 }
 
 /// The event of this type is written so many times and read; before the first stands its schema, of so many bytes and frames, and each
@@ -57,7 +39,11 @@ fn check_read<T: TraceEvent>(
 ) -> Result<Vec<u8>, Fail> {
     let (length, frames) = if count == 0 { (0, 0) } else { schema };
     let bytes = events(alloc, event, count)?;
-    check_number(rt, bytes.len() as u64, length_of(length, each, count));
+    let all = each.saturating_mul(count as u64);
+    assert_eq!(rt;
+        bytes.len() as u64,
+        all.saturating_add(length).saturating_add(5)
+    );
     check_trace(rt, alloc, &bytes, count.saturating_add(frames))?;
     Ok(bytes)
 }
@@ -207,22 +193,17 @@ fn check_texts(rt: &impl Abort, alloc: Global, size: usize) -> Result<(), Fail> 
     check_count(rt, alloc, &event, 1, (35, 1), each)
 }
 
-/// An event of this text and these bytes, each twice.
-fn borrowed<'a>(path: &'a str, body: &'a [u8]) -> Borrowed<'a> {
-    Borrowed {
-        time: 0,
-        path: StrField(path),
-        body: BytesField(body),
-        note: Some(StrField(path)),
-        rest: Some(BytesField(body)),
-    }
-}
-
 /// An event of borrowed texts and bytes of this size.
 fn check_borrowed(rt: &impl Abort, alloc: Global, size: usize) -> Result<(), Fail> {
     let path = text(alloc, size)?;
-    let body: Vec<u8> = vec![in alloc; 7; size]?;
-    let event = borrowed(path.as_str(), body.as_slice());
+    let body = vec![in alloc; 7; size]?;
+    let event = Borrowed {
+        time: 0,
+        path: StrField(path.as_str()),
+        body: BytesField(body.as_slice()),
+        note: Some(StrField(path.as_str())),
+        rest: Some(BytesField(body.as_slice())),
+    };
     let each = (size as u64).saturating_mul(4).saturating_add(24);
     check_count(rt, alloc, &event, 1, (44, 1), each)
 }
@@ -266,45 +247,50 @@ fn types_of_texts_of_each_size(rt: HostRuntime) -> Result<(), Fail> {
     check_borrowed(&rt, rt.alloc(), MILLION)
 }
 
-/// An event of a stack of this size is written, read and dumped.
-fn check_stacks(rt: &impl Abort, alloc: Global, size: usize) -> Result<(), Fail> {
-    let event = stacks(alloc, size)?;
-    check_count(rt, alloc, &event, 1, (31, 1), stacks_length(size))
-}
-
-/// An event of a list and a map of this size is written, read and dumped.
-fn check_dynamic(rt: &impl Abort, alloc: Global, size: usize) -> Result<(), Fail> {
-    let event = dynamic(alloc, size)?;
-    check_count(rt, alloc, &event, 1, (31, 1), dynamic_length(size))
-}
-
 #[test]
 fn types_of_lists_of_each_size(rt: HostRuntime) -> Result<(), Fail> {
+    let alloc = rt.alloc();
     for size in SIZES {
-        check_stacks(&rt, rt.alloc(), size)?;
-        check_dynamic(&rt, rt.alloc(), size)?;
+        check_count(
+            &rt,
+            alloc,
+            &stacks(alloc, size)?,
+            1,
+            (31, 1),
+            stacks_length(size),
+        )?;
+        check_count(
+            &rt,
+            alloc,
+            &dynamic(alloc, size)?,
+            1,
+            (31, 1),
+            dynamic_length(size),
+        )?;
     }
-    Ok(())
-}
-
-/// An event of a million addresses and one is written and read.
-fn check_million_addresses(rt: &impl Abort, alloc: Global) -> Result<(), Fail> {
-    let event = stacks(alloc, MILLION)?;
-    check_read(rt, alloc, &event, 1, (31, 1), stacks_length(MILLION))?;
-    Ok(())
-}
-
-/// An event of a list and a map of a million items each is written and read.
-fn check_million_items(rt: &impl Abort, alloc: Global) -> Result<(), Fail> {
-    let event = dynamic(alloc, MILLION)?;
-    check_read(rt, alloc, &event, 1, (31, 1), dynamic_length(MILLION))?;
     Ok(())
 }
 
 #[test]
 fn types_of_a_million(rt: HostRuntime) -> Result<(), Fail> {
-    check_million_addresses(&rt, rt.alloc())?;
-    check_million_items(&rt, rt.alloc())
+    let alloc = rt.alloc();
+    check_read(
+        &rt,
+        alloc,
+        &stacks(alloc, MILLION)?,
+        1,
+        (31, 1),
+        stacks_length(MILLION),
+    )?;
+    check_read(
+        &rt,
+        alloc,
+        &dynamic(alloc, MILLION)?,
+        1,
+        (31, 1),
+        dynamic_length(MILLION),
+    )?;
+    Ok(())
 }
 
 /// Four events, of types known by a slot and by a name, with a text that is interned between them.
@@ -322,49 +308,35 @@ fn put_round(encoder: &mut Encoder, round: u64) -> Result<(), EncodeError> {
     put(encoder, &ByName { time: round })
 }
 
-/// So many rounds.
-fn put_rounds(encoder: &mut Encoder, count: usize) -> Result<(), EncodeError> {
-    for round in 0..count {
-        put_round(encoder, round as u64)?;
-    }
-    Ok(())
-}
-
 /// What an encoder writes for so many rounds.
 fn rounds(alloc: Global, count: usize) -> Result<Vec<u8>, EncodeError> {
-    let mut encoder = fresh(alloc)?;
-    put_rounds(&mut encoder, count)?;
-    Ok(finished(encoder))
-}
-
-/// So many rounds are written, read as so many frames, and dumped.
-fn check_rounds(rt: &impl Abort, alloc: Global, count: usize, frames: usize) -> Result<(), Fail> {
-    let bytes = rounds(alloc, count)?;
-    check_trace(rt, alloc, &bytes, frames)?;
-    check_whole_dump(rt, alloc, &bytes);
-    Ok(())
+    let mut encoder = Encoder::new(alloc)?;
+    for round in 0..count {
+        put_round(&mut encoder, round as u64)?;
+    }
+    Ok(encoder.finish())
 }
 
 #[test]
 fn many_events_of_types_in_turn(rt: HostRuntime) -> Result<(), Fail> {
     for count in COUNTS {
+        let bytes = rounds(rt.alloc(), count)?;
         let once = if count == 0 { 0 } else { 6 };
-        let frames = count.saturating_mul(4).saturating_add(once);
-        check_rounds(&rt, rt.alloc(), count, frames)?;
+        check_trace(
+            &rt,
+            rt.alloc(),
+            &bytes,
+            count.saturating_mul(4).saturating_add(once),
+        )?;
+        check_whole_dump(&rt, rt.alloc(), &bytes);
     }
     Ok(())
-}
-
-/// The bytes are read as so many frames.
-fn check_frames(rt: &impl Abort, alloc: Global, bytes: &[u8], count: usize) -> Result<(), Fail> {
-    let mut decoder = decoder_of(alloc, bytes)?;
-    checks::check_count(rt, &mut decoder, count)
 }
 
 #[test]
 fn a_hundred_thousand_frames(rt: HostRuntime) -> Result<(), Fail> {
     let bytes = events(rt.alloc(), &FastSlot { time: 0 }, 99_999)?;
-    check_frames(&rt, rt.alloc(), &bytes, 100_000)?;
+    assert_eq!(rt; all_of(rt.alloc(), &bytes)?.len(), 100_000);
     check_at_once(&rt, rt.alloc(), &bytes, 100_000)?;
     check_events(&rt, rt.alloc(), &bytes)
 }

@@ -2,8 +2,7 @@
 
 use crate::tests::ample::COUNTS;
 use crate::tests::ample::traces::{check_trace, check_whole_dump};
-use crate::tests::calls::{finished, fresh, put_event, register_new};
-use crate::tests::checks::check_size;
+use crate::tests::calls::{put_event, register_new};
 use dial9_trace_format::codec::compile;
 use dial9_trace_format::encoder::Encoder;
 use dial9_trace_format::leb128::EncodeError;
@@ -23,49 +22,21 @@ fn fields_in_turn(
     let mut fields = Vec::new(alloc);
     for place in 0..count {
         let field_type = if place % 2 == 0 { first } else { second };
-        let field = FieldDef::new(alloc, "", field_type)?;
-        fields.push(field)?;
+        fields.push(FieldDef::new(alloc, "", field_type)?)?;
     }
     Ok(fields)
 }
 
-/// A seven for each field.
-fn sevens(alloc: Global, fields: &[FieldDef]) -> Result<Vec<FieldValue>, AllocError> {
+/// What an encoder writes for an event at 0 with 7 in each field.
+fn event(alloc: Global, fields: Vec<FieldDef>) -> Result<Vec<u8>, EncodeError> {
     let mut values = Vec::new(alloc);
     for _ in fields.iter() {
         values.push(FieldValue::Varint(7))?;
     }
-    Ok(values)
-}
-
-/// Writes an event at 0 with 7 in each field of a schema that it registers.
-fn put_sevens(
-    alloc: Global,
-    encoder: &mut Encoder,
-    fields: Vec<FieldDef>,
-) -> Result<(), EncodeError> {
-    let values = sevens(alloc, &fields)?;
-    let schema = register_new(encoder, "F", fields)?;
-    put_event(encoder, &schema, 0, &values)
-}
-
-/// What an encoder writes for an event at 0 with 7 in each field.
-fn event(alloc: Global, fields: Vec<FieldDef>) -> Result<Vec<u8>, EncodeError> {
-    let mut encoder = fresh(alloc)?;
-    put_sevens(alloc, &mut encoder, fields)?;
-    Ok(finished(encoder))
-}
-
-/// The fields have so many steps.
-fn check_steps(
-    rt: &impl Abort,
-    alloc: Global,
-    fields: &[FieldDef],
-    steps: usize,
-) -> Result<(), Fail> {
-    let layout = compile(alloc, fields)?;
-    check_size(rt, layout.steps().len(), steps);
-    Ok(())
+    let mut encoder = Encoder::new(alloc)?;
+    let schema = register_new(&mut encoder, "F", fields)?;
+    put_event(&mut encoder, &schema, 0, &values)?;
+    Ok(encoder.finish())
 }
 
 /// Fields of these types in turn have so many steps, and a schema of them is registered, read and dumped, with an event.
@@ -77,7 +48,8 @@ fn check_layout(
     steps: usize,
 ) -> Result<(), Fail> {
     let fields = fields_in_turn(alloc, count, types.0, types.1)?;
-    check_steps(rt, alloc, &fields, steps)?;
+    let layout = compile(alloc, &fields)?;
+    assert_eq!(rt; layout.steps().len(), steps);
     let bytes = event(alloc, fields)?;
     check_whole_dump(rt, alloc, &bytes);
     check_trace(rt, alloc, &bytes, 2)

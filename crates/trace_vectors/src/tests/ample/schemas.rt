@@ -1,7 +1,6 @@
 //! Names, fields, annotations, entries, registries.
 
 use crate::tests::ample::{COUNTS, MILLION, SIZES, text};
-use crate::tests::checks::check_size;
 use dial9_trace_format::codec::WireTypeId;
 use dial9_trace_format::encoder::Schema;
 use dial9_trace_format::schema::{
@@ -20,8 +19,7 @@ pub fn fields(
 ) -> Result<Vec<FieldDef>, AllocError> {
     let mut fields = Vec::new(alloc);
     for _ in 0..count {
-        let field = FieldDef::new(alloc, "", field_type)?;
-        fields.push(field)?;
+        fields.push(FieldDef::new(alloc, "", field_type)?)?;
     }
     Ok(fields)
 }
@@ -30,8 +28,7 @@ pub fn fields(
 fn annotations(alloc: Global, count: usize) -> Result<Vec<FieldAnnotation>, AllocError> {
     let mut annotations = Vec::new(alloc);
     for _ in 0..count {
-        let annotation = FieldAnnotation::new(alloc, 0, "", "")?;
-        annotations.push(annotation)?;
+        annotations.push(FieldAnnotation::new(alloc, 0, "", "")?)?;
     }
     Ok(annotations)
 }
@@ -53,32 +50,14 @@ fn check_annotation(rt: &impl Abort, alloc: Global, key: &str) -> Result<(), Fai
     Ok(())
 }
 
-/// The entry and its copy have a name of this size.
-fn check_entry_name(
-    rt: &impl Abort,
-    alloc: Global,
-    entry: &SchemaEntry,
-    size: usize,
-) -> Result<(), Fail> {
-    check_size(rt, entry.name().len(), size);
-    let copy = entry.clone(alloc)?;
-    assert!(rt; copy == *entry);
-    Ok(())
-}
-
-/// The copy of a schema without fields has a name of this size.
-fn check_schema_name(rt: &impl Abort, alloc: Global, name: &str) -> Result<(), Fail> {
-    let schema = Schema::new(alloc, name, Vec::new(alloc))?;
-    let copy = schema.clone()?;
-    check_size(rt, copy.name().len(), name.len());
-    Ok(())
-}
-
 /// An entry without fields, and its copy, have a name of this size.
 fn check_name(rt: &impl Abort, alloc: Global, name: &str) -> Result<(), Fail> {
     let entry = SchemaEntry::new(alloc, name, &[])?;
-    check_entry_name(rt, alloc, &entry, name.len())?;
-    check_schema_name(rt, alloc, name)
+    assert_eq!(rt; entry.name().len(), name.len());
+    assert!(rt; entry.clone(alloc)? == entry);
+    let schema = Schema::new(alloc, name, Vec::new(alloc))?;
+    assert_eq!(rt; schema.clone()?.name().len(), name.len());
+    Ok(())
 }
 
 /// Fields, annotations, entries and schemas have names of this size.
@@ -104,58 +83,26 @@ fn entry(alloc: Global, count: usize, notes: usize) -> Result<SchemaEntry, Alloc
     SchemaEntry::with_annotations(alloc, "S", &fields, &annotations)
 }
 
-/// The entry has so many fields and annotations.
-fn check_counts(rt: &impl Abort, entry: &SchemaEntry, count: usize, notes: usize) {
-    check_size(rt, entry.fields().len(), count);
-    check_size(rt, entry.annotations().len(), notes);
-}
-
-/// The schema of the entry has so many fields.
-fn check_schema(
-    rt: &impl Abort,
-    alloc: Global,
-    entry: SchemaEntry,
-    count: usize,
-) -> Result<(), Fail> {
-    let schema = Schema::from_entry(alloc, entry)?;
-    check_size(rt, schema.fields().len(), count);
-    Ok(())
-}
-
-/// A copy of the entry, which equals it, and to which its annotations are added.
-fn copy_of(
-    rt: &impl Abort,
-    alloc: Global,
-    entry: &mut SchemaEntry,
-) -> Result<SchemaEntry, AllocError> {
-    let copy = (*entry).clone(alloc)?;
-    assert!(rt; copy == *entry);
-    entry.append_annotations(alloc, copy.annotations())?;
-    Ok(copy)
-}
-
 /// The entry, its copy and its schema have so many fields and annotations.
 fn check_entry(rt: &impl Abort, alloc: Global, count: usize, notes: usize) -> Result<(), Fail> {
     let mut entry = entry(alloc, count, notes)?;
-    check_counts(rt, &entry, count, notes);
-    let copy = copy_of(rt, alloc, &mut entry)?;
-    check_schema(rt, alloc, copy, count)
-}
-
-/// The entry made of the fields alone has as many.
-fn check_entry_of(rt: &impl Abort, alloc: Global, fields: &[FieldDef]) -> Result<(), Fail> {
-    let entry = SchemaEntry::new(alloc, "S", fields)?;
-    check_size(rt, entry.fields().len(), fields.len());
+    assert_eq!(rt; entry.fields().len(), count);
+    assert_eq!(rt; entry.annotations().len(), notes);
+    let copy = entry.clone(alloc)?;
+    assert!(rt; copy == entry);
+    entry.append_annotations(alloc, copy.annotations())?;
+    let schema = Schema::from_entry(alloc, copy)?;
+    assert_eq!(rt; schema.fields().len(), count);
     Ok(())
 }
 
 /// The entry and the schema made of fields alone have so many.
 fn check_fields(rt: &impl Abort, alloc: Global, count: usize) -> Result<(), Fail> {
     let fields = fields(alloc, count, FieldType::U8)?;
-    check_size(rt, fields.len(), count);
-    check_entry_of(rt, alloc, &fields)?;
+    let entry = SchemaEntry::new(alloc, "S", &fields)?;
+    assert_eq!(rt; entry.fields().len(), count);
     let schema = Schema::new(alloc, "S", fields)?;
-    check_size(rt, schema.fields().len(), count);
+    assert_eq!(rt; schema.fields().len(), count);
     Ok(())
 }
 

@@ -1,7 +1,6 @@
 //! Values that have a size.
 
 use crate::tests::ample::{MILLION, SIZED, SIZES, spelled_length, text, value};
-use crate::tests::checks::{check_number, check_size};
 use dial9_trace_format::leb128::EncodeError;
 use dial9_trace_format::types::{
     EventEncoder, F64Bits, FieldType, FieldValue, FieldValueRef, InternedStackFrames,
@@ -32,18 +31,6 @@ fn check_owned(
     Ok(())
 }
 
-/// What was read with borrowed values is this value, and its copy is equal to it.
-fn check_shown(
-    rt: &impl Abort,
-    alloc: Global,
-    borrowed: &FieldValueRef<'_>,
-    value: &FieldValue,
-) -> Result<(), Fail> {
-    assert!(rt; borrowed.clone(alloc)? == *borrowed);
-    assert!(rt; borrowed.to_owned(alloc)? == *value);
-    Ok(())
-}
-
 /// The reader of borrowed values reads the value from these bytes, and its copies are equal.
 fn check_borrowed(
     rt: &impl Abort,
@@ -53,28 +40,10 @@ fn check_borrowed(
     value: &FieldValue,
 ) -> Result<(), Fail> {
     let (borrowed, length) = FieldValueRef::decode(alloc, field_type, bytes, 0)?.ok_or("none")?;
-    check_size(rt, length, bytes.len());
-    check_shown(rt, alloc, &borrowed, value)
-}
-
-/// The copy of the value equals it.
-fn check_copy(rt: &impl Abort, alloc: Global, value: &FieldValue) -> Result<(), Fail> {
-    let copy = value.clone(alloc)?;
-    assert!(rt; copy == *value);
+    assert_eq!(rt; length, bytes.len());
+    assert!(rt; borrowed.clone(alloc)? == borrowed);
+    assert!(rt; borrowed.to_owned(alloc)? == *value);
     Ok(())
-}
-
-/// The bytes of a value by its own kind, which are as many as docs/FORMAT.md says.
-fn spelled(
-    rt: &impl Abort,
-    alloc: Global,
-    field_type: FieldType,
-    size: usize,
-    value: &FieldValue,
-) -> Result<Vec<u8>, EncodeError> {
-    let bytes = encoded(alloc, value)?;
-    check_number(rt, bytes.len() as u64, spelled_length(field_type, size));
-    Ok(bytes)
 }
 
 /// The value of this size is made, spelled, read and copied.
@@ -85,10 +54,12 @@ fn check_sized(
     size: usize,
 ) -> Result<(), Fail> {
     let value = value(alloc, field_type, size)?;
-    let bytes = spelled(rt, alloc, field_type, size, &value)?;
+    let bytes = encoded(alloc, &value)?;
+    assert_eq!(rt; bytes.len() as u64, spelled_length(field_type, size));
     check_owned(rt, alloc, field_type, &bytes, &value)?;
     check_borrowed(rt, alloc, field_type, &bytes, &value)?;
-    check_copy(rt, alloc, &value)
+    assert!(rt; value.clone(alloc)? == value);
+    Ok(())
 }
 
 #[test]
@@ -109,43 +80,24 @@ fn values_of_a_million(rt: HostRuntime) -> Result<(), Fail> {
     Ok(())
 }
 
-/// The value as a field of this type.
-fn field(alloc: Global, field_type: FieldType, value: &FieldValue) -> Result<Vec<u8>, EncodeError> {
-    let mut out = Vec::new(alloc);
-    EventEncoder::new(&mut out).write_field_value(value, field_type)?;
-    Ok(out)
-}
-
-/// The value as a field of this type has so many bytes.
-fn check_length(
-    rt: &impl Abort,
-    alloc: Global,
-    field_type: FieldType,
-    value: &FieldValue,
-    length: u64,
-) -> Result<(), EncodeError> {
-    let out = field(alloc, field_type, value)?;
-    check_number(rt, out.len() as u64, length);
-    Ok(())
-}
-
 /// The value of this size is written as a field, by the type and by its optional type.
 fn check_field(
     rt: &impl Abort,
     alloc: Global,
     field_type: FieldType,
     size: usize,
-) -> Result<(), EncodeError> {
+) -> Result<(), Fail> {
     let value = value(alloc, field_type, size)?;
-    let length = spelled_length(field_type, size);
-    check_length(rt, alloc, field_type, &value, length)?;
-    check_length(
-        rt,
-        alloc,
-        field_type.optional(),
-        &value,
-        length.saturating_add(1),
-    )
+    let mut out = Vec::new(alloc);
+    EventEncoder::new(&mut out).write_field_value(&value, field_type)?;
+    assert_eq!(rt; out.len() as u64, spelled_length(field_type, size));
+    let mut out = Vec::new(alloc);
+    EventEncoder::new(&mut out).write_field_value(&value, field_type.optional())?;
+    assert_eq!(rt;
+        out.len() as u64,
+        spelled_length(field_type, size).saturating_add(1)
+    );
+    Ok(())
 }
 
 #[test]
@@ -195,35 +147,22 @@ fn texts_by_texts(alloc: Global, count: usize) -> Result<Vec<u8>, EncodeError> {
     Ok(out)
 }
 
-/// The calls of texts and of bytes write what docs/FORMAT.md says of their length.
-fn check_texts(rt: &impl Abort, alloc: Global, size: usize) -> Result<(), EncodeError> {
-    let texts = texts_and_bytes(alloc, size)?;
+/// The calls of this size write what docs/FORMAT.md says of their length.
+fn check_calls(rt: &impl Abort, alloc: Global, size: usize) -> Result<(), Fail> {
     let text = spelled_length(FieldType::String, size);
-    check_number(rt, texts.len() as u64, text.saturating_mul(2));
-    Ok(())
-}
-
-/// The call of addresses does.
-fn check_addresses(rt: &impl Abort, alloc: Global, size: usize) -> Result<(), EncodeError> {
+    let texts = texts_and_bytes(alloc, size)?;
+    assert_eq!(rt; texts.len() as u64, text.saturating_mul(2));
     let stack = addresses(alloc, size)?;
-    let length = spelled_length(FieldType::StackFrames, size);
-    check_number(rt, stack.len() as u64, length);
-    Ok(())
-}
-
-/// The call of pairs of texts does.
-fn check_pairs(rt: &impl Abort, alloc: Global, size: usize) -> Result<(), EncodeError> {
+    assert_eq!(rt;
+        stack.len() as u64,
+        spelled_length(FieldType::StackFrames, size)
+    );
     let pairs = texts_by_texts(alloc, size.min(1_000_000))?;
-    let length = spelled_length(FieldType::StringMap, size);
-    check_number(rt, pairs.len() as u64, length);
+    assert_eq!(rt;
+        pairs.len() as u64,
+        spelled_length(FieldType::StringMap, size)
+    );
     Ok(())
-}
-
-/// The calls of this size do.
-fn check_calls(rt: &impl Abort, alloc: Global, size: usize) -> Result<(), EncodeError> {
-    check_texts(rt, alloc, size)?;
-    check_addresses(rt, alloc, size)?;
-    check_pairs(rt, alloc, size)
 }
 
 #[test]
@@ -231,21 +170,7 @@ fn calls_of_each_size(rt: HostRuntime) -> Result<(), Fail> {
     for size in SIZES {
         check_calls(&rt, rt.alloc(), size)?;
     }
-    check_calls(&rt, rt.alloc(), MILLION)?;
-    Ok(())
-}
-
-/// Numbers of each width, a float, a truth and ids.
-fn put_fields(encoder: &mut EventEncoder<'_>) -> Result<(), EncodeError> {
-    encoder.write_u8(1)?;
-    encoder.write_u16(1)?;
-    encoder.write_u32(1)?;
-    encoder.write_u64(1)?;
-    encoder.write_i64(1)?;
-    encoder.write_bool(true)?;
-    encoder.write_f64(F64Bits(1))?;
-    encoder.write_interned(InternedString::from_raw(1))?;
-    encoder.write_interned_stack_frames(InternedStackFrames::from_raw(1))
+    check_calls(&rt, rt.alloc(), MILLION)
 }
 
 /// So many fields of each call that has no size, one after another.
@@ -253,7 +178,15 @@ fn many_fields(alloc: Global, count: usize) -> Result<Vec<u8>, EncodeError> {
     let mut out = Vec::new(alloc);
     let mut encoder = EventEncoder::new(&mut out);
     for _ in 0..count {
-        put_fields(&mut encoder)?;
+        encoder.write_u8(1)?;
+        encoder.write_u16(1)?;
+        encoder.write_u32(1)?;
+        encoder.write_u64(1)?;
+        encoder.write_i64(1)?;
+        encoder.write_bool(true)?;
+        encoder.write_f64(F64Bits(1))?;
+        encoder.write_interned(InternedString::from_raw(1))?;
+        encoder.write_interned_stack_frames(InternedStackFrames::from_raw(1))?;
     }
     Ok(out)
 }
