@@ -1,8 +1,10 @@
 mod HexDigits
 pub mod ProgramLemmas
-mod Joined
+mod ValueTexts
+mod FaultTexts
+mod AppendedParts
 mod DumpLemmas
-mod Growing
+mod SendsLemmas
 mod Placing
 mod Gathering
 mod EventLines

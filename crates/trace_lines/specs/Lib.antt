@@ -1,3 +1,4 @@
+pub mod Appending
 pub mod Lines
 pub mod ResolvedLines
 pub mod Dumps

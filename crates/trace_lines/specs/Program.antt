@@ -40,8 +40,8 @@ DumpsFront resolve remaining old new = (bytes : List ℕ) → remaining ≡ Some
     → (written : List ℕ) × (kinds : List ErrorKind) × ((written ≡ []) ⊎ BeginsDump resolve bytes written) × Took old new written kinds
 
 -- what is told beside the dump: how to call the program, that it failed, or nothing
-abbrev pub note_for : Task → ℕ → List ℕ
-note_for Usage status = codes "usage: tracedump [--resolve]\n"
-note_for Resolve status = if status == 4 then codes "tracedump: failed\n" else []
-note_for Dump status = if status == 4 then codes "tracedump: failed\n" else []
-note_for Fail status = if status == 4 then codes "tracedump: failed\n" else []
+abbrev pub message_for : Task → ℕ → List ℕ
+message_for Usage status = codes "usage: tracedump [--resolve]\n"
+message_for Resolve status = if status == 4 then codes "tracedump: failed\n" else []
+message_for Dump status = if status == 4 then codes "tracedump: failed\n" else []
+message_for Fail status = if status == 4 then codes "tracedump: failed\n" else []

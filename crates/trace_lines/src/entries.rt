@@ -1,7 +1,8 @@
 //! Entries of pools, and annotations, as they stand in a line. Each function answers `AllocError` where a growth was refused.
 
-ghost use Rattle.std.specs.Prelude.{◌≡◌, ◌++◌, OnOk, codes, string_bytes};
+ghost use Rattle.std.specs.Prelude.{codes};
 ghost use Rattle.trace_wire.specs.PoolEntries.{string_entry_of, stack_entry_of};
+ghost use Rattle.trace_lines.specs.Appending.{AppendsText};
 ghost use Rattle.trace_lines.specs.Lines.{string_entry_text, stack_entry_text, annotation_text};
 
 use crate::text::{push_addresses, push_quoted};
@@ -12,7 +13,7 @@ use trace_wire::schema::FieldAnnotation;
 /// Appends an entry of a string pool after a space: its id and its bytes, which need not be text.
 #[tactic(auto, unfolding(crate::specs::Lines::string_entry_text))]
 pub fn push_string_entry(out: &mut String, entry: &PoolEntry) -> Result<(), AllocError>
-    ensures { OnOk result (string_bytes out.new ≡ string_bytes out.old ++ string_entry_text (string_entry_of entry.now)) }
+    ensures { AppendsText (string_entry_text (string_entry_of entry.now)) out.old out.new result }
 {
     let id = entry.pool_id;
     write!(out, " {id}:")?;
@@ -22,7 +23,7 @@ pub fn push_string_entry(out: &mut String, entry: &PoolEntry) -> Result<(), Allo
 /// Appends an entry of a stack pool after a space: its id and its addresses.
 #[tactic(auto, unfolding(crate::specs::Lines::stack_entry_text))]
 pub fn push_stack_entry(out: &mut String, entry: &StackPoolEntry) -> Result<(), AllocError>
-    ensures { OnOk result (string_bytes out.new ≡ string_bytes out.old ++ stack_entry_text (stack_entry_of entry.now)) }
+    ensures { AppendsText (stack_entry_text (stack_entry_of entry.now)) out.old out.new result }
 {
     let id = entry.pool_id;
     write!(out, " {id}:")?;
@@ -32,7 +33,7 @@ pub fn push_stack_entry(out: &mut String, entry: &StackPoolEntry) -> Result<(), 
 /// Appends an annotation after a space: the index of its field, its key and its value.
 #[tactic(auto, unfolding(crate::specs::Lines::annotation_text))]
 pub fn push_annotation(out: &mut String, annotation: &FieldAnnotation) -> Result<(), AllocError>
-    ensures { OnOk result (string_bytes out.new ≡ string_bytes out.old ++ annotation_text annotation.now) }
+    ensures { AppendsText (annotation_text annotation.now) out.old out.new result }
 {
     let index = annotation.field_index();
     write!(out, " {index}:")?;

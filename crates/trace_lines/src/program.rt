@@ -4,7 +4,7 @@
 ghost use Rattle.std.specs.Prelude.{◌≡◌, ◌≢◌, ◌≤◌};
 ghost use Rattle.std.specs.Process.{exit_status};
 ghost use Rattle.trace_values.specs.Sending.{IsSettled};
-ghost use Rattle.trace_lines.specs.Program.{AsksFor, WordsAskFor, resolves, DumpsAll, DumpsFront, note_for};
+ghost use Rattle.trace_lines.specs.Program.{AsksFor, WordsAskFor, resolves, DumpsAll, DumpsFront, message_for};
 
 use crate::dump::{FAILED, dump};
 use std::alloc::Global;
@@ -35,7 +35,7 @@ pub fn run(rt: &(impl AllocGlobal + Env + Input + Print + Eprint)) -> ExitCode
     let mut input = rt.reader();
     let mut output = Plain(io::writer(rt));
     let status = carry_out(rt.alloc(), task, &mut input, &mut output);
-    let _ = eprint!(rt; "{}", note_of(task, status));
+    let _ = eprint!(rt; "{}", message_of(task, status));
     ExitCode::from(status)
 }
 
@@ -96,8 +96,8 @@ pub fn carry_out<R: Read, W: TraceWrite>(
 }
 
 /// What to tell on standard error, with its line feed, and nothing where a dump was written.
-pub fn note_of(task: Task, status: u8) -> &'static str
-    ensures { result.now ≡ note_for task status }
+pub fn message_of(task: Task, status: u8) -> &'static str
+    ensures { result.now ≡ message_for task status }
 {
     match (task, status) {
         (Task::Usage, _) => "usage: tracedump [--resolve]\n",

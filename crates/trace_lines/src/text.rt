@@ -1,7 +1,8 @@
 //! Names, texts and addresses as they stand in a line. Functions that append answer `AllocError` where a growth was refused.
 
-ghost use Rattle.std.specs.Prelude.{◌≡◌, ◌++◌, OnOk, codes, string_bytes};
+ghost use Rattle.std.specs.Prelude.{codes};
 ghost use Rattle.std.specs.List.{join_by};
+ghost use Rattle.trace_lines.specs.Appending.{AppendsText};
 ghost use Rattle.trace_lines.specs.Lines.{escaped_byte, quoted_byte, quoted, address_digits, address_list, sixteen_digits};
 
 use std::alloc::AllocError;
@@ -9,7 +10,7 @@ use std::alloc::AllocError;
 /// Appends bytes in quotes (docs/FORMAT.md, "Dumps").
 #[tactic(auto, unfolding(crate::specs::Lines::quoted))]
 pub fn push_quoted(out: &mut String, bytes: &[u8]) -> Result<(), AllocError>
-    ensures { OnOk result (string_bytes out.new ≡ string_bytes out.old ++ quoted bytes.now) }
+    ensures { AppendsText (quoted bytes.now) out.old out.new result }
 {
     out.push('"')?;
     for byte in bytes {
@@ -21,7 +22,7 @@ pub fn push_quoted(out: &mut String, bytes: &[u8]) -> Result<(), AllocError>
 /// Appends addresses in brackets (docs/FORMAT.md, "Dumps").
 #[tactic(auto, unfolding(crate::specs::Lines::address_list))]
 pub fn push_addresses(out: &mut String, addresses: &[u64]) -> Result<(), AllocError>
-    ensures { OnOk result (string_bytes out.new ≡ string_bytes out.old ++ address_list addresses.now) }
+    ensures { AppendsText (address_list addresses.now) out.old out.new result }
 {
     out.push('[')?;
     if let Some((first, others)) = addresses.split_first() {
@@ -36,7 +37,7 @@ pub fn push_addresses(out: &mut String, addresses: &[u64]) -> Result<(), AllocEr
 /// Appends the sixteen hexadecimal digits of a number.
 #[tactic(auto, using(crate::proofs::HexDigits::padded_16))]
 pub fn push_sixteen_digits(out: &mut String, number: u64) -> Result<(), AllocError>
-    ensures { OnOk result (string_bytes out.new ≡ string_bytes out.old ++ sixteen_digits number) }
+    ensures { AppendsText (sixteen_digits number) out.old out.new result }
 {
     write!(out, "{number:016x}")
 }
@@ -44,7 +45,7 @@ pub fn push_sixteen_digits(out: &mut String, number: u64) -> Result<(), AllocErr
 // Appends a byte as it stands between quotes.
 #[tactic(auto, unfolding(crate::specs::Lines::quoted_byte))]
 fn push_quoted_byte(out: &mut String, byte: u8) -> Result<(), AllocError>
-    ensures { OnOk result (string_bytes out.new ≡ string_bytes out.old ++ quoted_byte byte) }
+    ensures { AppendsText (quoted_byte byte) out.old out.new result }
 {
     match byte {
         b'"' | b'\\' => push_escaped_byte(out, byte),
@@ -55,7 +56,7 @@ fn push_quoted_byte(out: &mut String, byte: u8) -> Result<(), AllocError>
 
 #[tactic(auto, unfolding(crate::specs::Lines::escaped_byte), using(crate::proofs::HexDigits::hex_byte))]
 fn push_escaped_byte(out: &mut String, byte: u8) -> Result<(), AllocError>
-    ensures { OnOk result (string_bytes out.new ≡ string_bytes out.old ++ escaped_byte byte) }
+    ensures { AppendsText (escaped_byte byte) out.old out.new result }
 {
     write!(out, "\\x{byte:02X}")
 }

@@ -1,9 +1,10 @@
 //! Values as they stand in a line. Each function answers `AllocError` where a growth was refused.
 
-ghost use Rattle.std.specs.Prelude.{◌≡◌, ◌++◌, OnOk, codes, string_bytes, map};
+ghost use Rattle.std.specs.Prelude.{◌++◌, codes, map};
 ghost use Rattle.std.specs.List.{join_by};
 ghost use Rattle.trace_values.specs.Reading.{values_to_items, values_to_pairs};
 ghost use Rattle.trace_values.specs.View.{view, views, pair_views, text_pairs_view};
+ghost use Rattle.trace_lines.specs.Appending.{AppendsText};
 ghost use Rattle.trace_lines.specs.Lines.{truth, pair_text, value_text, item_texts, pair_texts};
 
 use crate::text::{push_addresses, push_quoted, push_sixteen_digits};
@@ -12,9 +13,9 @@ use trace_values::types::FieldValue;
 
 /// Appends a value: the name of its kind, and what it holds (docs/FORMAT.md, "Dumps").
 #[cycle(value)]
-#[tactic(auto, using(crate::proofs::Joined::value_text_StackFrames, crate::proofs::Joined::value_text_PooledStackFrames, crate::proofs::Joined::value_text_StringMap, crate::proofs::Joined::value_text_List, crate::proofs::Joined::value_text_Map))]
+#[tactic(auto, using(crate::proofs::ValueTexts::value_text_StackFrames, crate::proofs::ValueTexts::value_text_PooledStackFrames, crate::proofs::ValueTexts::value_text_StringMap, crate::proofs::ValueTexts::value_text_List, crate::proofs::ValueTexts::value_text_Map))]
 pub fn push_value(out: &mut String, value: &FieldValue) -> Result<(), AllocError>
-    ensures { OnOk result (string_bytes out.new ≡ string_bytes out.old ++ value_text (view value.now)) }
+    ensures { AppendsText (value_text (view value.now)) out.old out.new result }
 {
     match value {
         FieldValue::I64(number) => write!(out, "I64:{number}"),
@@ -59,7 +60,7 @@ pub fn push_value(out: &mut String, value: &FieldValue) -> Result<(), AllocError
 
 #[cycle(value)]
 fn push_items(out: &mut String, items: &[FieldValue]) -> Result<(), AllocError>
-    ensures { OnOk result (string_bytes out.new ≡ string_bytes out.old ++ join_by (λ v. value_text (view v)) (codes ",") items.now) }
+    ensures { AppendsText (join_by (λ v. value_text (view v)) (codes ",") items.now) out.old out.new result }
 {
     let Some((first, others)) = items.split_first() else {
         return Ok(());
@@ -74,8 +75,7 @@ fn push_items(out: &mut String, items: &[FieldValue]) -> Result<(), AllocError>
 
 #[cycle(value)]
 fn push_pairs(out: &mut String, pairs: &[(FieldValue, FieldValue)]) -> Result<(), AllocError>
-    ensures { OnOk result (string_bytes out.new ≡
-        string_bytes out.old ++ join_by (λ p. value_text (view p.0) ++ codes "=" ++ value_text (view p.1)) (codes ",") pairs.now) }
+    ensures { AppendsText (join_by (λ p. value_text (view p.0) ++ codes "=" ++ value_text (view p.1)) (codes ",") pairs.now) out.old out.new result }
 {
     let Some((first, others)) = pairs.split_first() else {
         return Ok(());
@@ -93,7 +93,7 @@ fn push_pairs(out: &mut String, pairs: &[(FieldValue, FieldValue)]) -> Result<()
 }
 
 fn push_text_pairs(out: &mut String, pairs: &[(Vec<u8>, Vec<u8>)]) -> Result<(), AllocError>
-    ensures { OnOk result (string_bytes out.new ≡ string_bytes out.old ++ join_by (λ p. pair_text (p.0.items, p.1.items)) (codes ",") pairs.now) }
+    ensures { AppendsText (join_by (λ p. pair_text (p.0.items, p.1.items)) (codes ",") pairs.now) out.old out.new result }
 {
     let Some((first, others)) = pairs.split_first() else {
         return Ok(());
@@ -107,7 +107,7 @@ fn push_text_pairs(out: &mut String, pairs: &[(Vec<u8>, Vec<u8>)]) -> Result<(),
 }
 
 fn push_text_pair(out: &mut String, pair: &(Vec<u8>, Vec<u8>)) -> Result<(), AllocError>
-    ensures { OnOk result (string_bytes out.new ≡ string_bytes out.old ++ pair_text (pair.now.0.items, pair.now.1.items)) }
+    ensures { AppendsText (pair_text (pair.now.0.items, pair.now.1.items)) out.old out.new result }
 {
     push_quoted(out, &pair.0)?;
     out.push('=')?;

@@ -19,8 +19,8 @@ use Rattle.trace_writer.specs.Headline.{FreshHeadline}
 use Rattle.trace_recordings.specs.declared.script.definitions.Definition.{Definition}
 use Rattle.trace_recordings.specs.declared.script.call.Call.{Call}
 use Rattle.trace_recordings.specs.declared.script.call.Call.TheVariants.{Nothing, Define, Register, Event, DefineType, WriteTyped, InternString, InternStack, StringPool, StackPool, Reset, Resume, Raw, Bare}
-use Rattle.trace_recordings.specs.declared.player.Note.{Note}
-use Rattle.trace_recordings.specs.declared.player.Note.TheVariants.{Answered, Silent}
+use Rattle.trace_recordings.specs.declared.player.LineReply.{LineReply}
+use Rattle.trace_recordings.specs.declared.player.LineReply.TheVariants.{Answered, Silent}
 use Rattle.trace_recordings.specs.declared.player.PlayError.{PlayError}
 use Rattle.trace_recordings.specs.declared.typed.Sample.{Sample}
 use Rattle.trace_wire.specs.Schemas.{Entry}
@@ -46,15 +46,15 @@ turns_asked p Resume q h = absurd (no_action h.2.action h.2.asked)
 turns_asked p (Raw bytes) q h = absurd (no_action h.2.action h.2.asked)
 turns_asked p Bare q h = absurd (no_action h.2.action h.2.asked)
 
--- the encoder was asked, and then its reply noted, where that was done
+-- the encoder was asked, and then its reply replied, where that was done
 pub asked_turn : (r : Result (Unit {0}) PlayError) (p : Playing) (call : Call) (reply : Reply) (mid q : Playing) → Asks p call reply mid → OnOk r (q ≡ with_reply (Answered reply) mid) → OnOk r (Turns p call q)
-asked_turn (Ok u) p call reply mid q asks noted = turns_asked p call q (reply, mid, asks, noted)
-asked_turn (Err e) p call reply mid q asks noted = tt
+asked_turn (Ok u) p call reply mid q asks replied = turns_asked p call q (reply, mid, asks, replied)
+asked_turn (Err e) p call reply mid q asks replied = tt
 
--- a new trace was begun, and then the reply noted, where that was done
-pub reset_turn : (r : Result (Unit {0}) PlayError) (p : Playing) (call : Call) (note : Note) (mid q : Playing) → call ≡ Reset → Resets p note mid → OnOk r (q ≡ with_reply note mid) → OnOk r (Turns p call q)
-reset_turn (Ok u) p call note mid q is resets noted = subst (λ (c : Call). Turns p c q) (sym is) (note, mid, resets, noted)
-reset_turn (Err e) p call note mid q is resets noted = tt
+-- a new trace was begun, and then the reply replied, where that was done
+pub reset_turn : (r : Result (Unit {0}) PlayError) (p : Playing) (call : Call) (reply : LineReply) (mid q : Playing) → call ≡ Reset → Resets p reply mid → OnOk r (q ≡ with_reply reply mid) → OnOk r (Turns p call q)
+reset_turn (Ok u) p call reply mid q is resets replied = subst (λ (c : Call). Turns p c q) (sym is) (reply, mid, resets, replied)
+reset_turn (Err e) p call reply mid q is resets replied = tt
 
 -- what a decoder that has given all becomes, by whether it has failed
 becomes : (trace : List ℕ) (last : DecoderState) (o : Option Failure) (r : Result (EncoderView (Vec ℕ Global)) EncodeError) → HasReadAll trace last → last.failure ≡ o
@@ -78,15 +78,15 @@ resumption_refused trace bytes r e same is answers =
     let here : AnswersResumption bytes r = subst (λ (x : List ℕ). AnswersResumption x r) same answers in
     subst (AnswersResumption bytes) is here
 
--- an encoder went on after the output, and then the reply noted, where that was done
-pub resume_turn : (r : Result (Unit {0}) PlayError) (p : Playing) (call : Call) (note : Note) (mid q : Playing) → call ≡ Resume → Resumes p note mid → OnOk r (q ≡ with_reply note mid) → OnOk r (Turns p call q)
-resume_turn (Ok u) p call note mid q is resumes noted = subst (λ (c : Call). Turns p c q) (sym is) (note, mid, resumes, noted)
-resume_turn (Err e) p call note mid q is resumes noted = tt
+-- an encoder went on after the output, and then the reply replied, where that was done
+pub resume_turn : (r : Result (Unit {0}) PlayError) (p : Playing) (call : Call) (reply : LineReply) (mid q : Playing) → call ≡ Resume → Resumes p reply mid → OnOk r (q ≡ with_reply reply mid) → OnOk r (Turns p call q)
+resume_turn (Ok u) p call reply mid q is resumes replied = subst (λ (c : Call). Turns p c q) (sym is) (reply, mid, resumes, replied)
+resume_turn (Err e) p call reply mid q is resumes replied = tt
 
--- a type was kept, and then that noted
+-- a type was kept, and then that replied
 pub type_turn : (r : Result (Unit {0}) PlayError) (p : Playing) (call : Call) (handle slot : ℕ) (definition : Definition) (mid q : Playing) → call ≡ DefineType handle slot definition → DefinesType handle slot definition p mid → OnOk r (q ≡ with_reply Silent mid) → OnOk r (Turns p call q)
-type_turn (Ok u) p call handle slot definition mid q is defines noted = subst (λ (c : Call). Turns p c q) (sym is) (mid, defines, noted)
-type_turn (Err e) p call handle slot definition mid q is defines noted = tt
+type_turn (Ok u) p call handle slot definition mid q is defines replied = subst (λ (c : Call). Turns p c q) (sym is) (mid, defines, replied)
+type_turn (Err e) p call handle slot definition mid q is defines replied = tt
 
 -- nothing was done yet
 pub started : (state : WriterState) (schemas : List (ℕ × Entry)) (types : List (ℕ × Sample)) (bytes replies : List ℕ) → state ≡ fresh_state → schemas ≡ [] → types ≡ [] → bytes ≡ header → replies ≡ []
@@ -130,7 +130,7 @@ asked p call q r h after =
     }
 
 typed : (p mid q : Playing) (handle slot : ℕ) (definition : Definition) (defines : DefinesType handle slot definition p mid) → q ≡ with_reply Silent mid → q ≡ with_reply Silent (with_type handle defines.0 p)
-typed p mid q handle slot definition defines noted = noted ∙ ap (with_reply Silent) defines.2
+typed p mid q handle slot definition defines replied = replied ∙ ap (with_reply Silent) defines.2
 
 -- before it, a turn
 turn : (p : Playing) (call : Call) (q r : Playing) → IsOfEncoder call → Turns p call q → Written q r → Written p r

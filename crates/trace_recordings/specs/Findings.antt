@@ -25,24 +25,24 @@ use Rattle.trace_recordings.specs.Sinks.{IsSinkText}
 abbrev pub ShowsDump : Form → List ℕ → List ℕ → PartOutcome → Type 0
 ShowsDump form trace lines Absent = ⊥
 ShowsDump form trace lines (LeftOut name) = ⊥
-ShowsDump form trace lines (Compared notes) = (status : ℕ) × (text : List ℕ) × IsDumpAs form trace status text × ((notes.items ≡ []) ↔ (ended lines ≡ text))
+ShowsDump form trace lines (Compared differences) = (status : ℕ) × (text : List ℕ) × IsDumpAs form trace status text × ((differences.items ≡ []) ↔ (ended lines ≡ text))
 
 -- the script was played, and no difference is told exactly where the trace and the recorded replies are what its calls make
-pub record ShowsPlayed (trace : List ℕ) (calls : Calls) (notes : List (String Global)) : Type 0 where
+pub record ShowsPlayed (trace : List ℕ) (calls : Calls) (differences : List (String Global)) : Type 0 where
   pub bytes : List ℕ
   pub replies : List ℕ
   pub played : IsPlayed calls.script.now bytes replies
-  pub none_told : (notes ≡ []) ↔ ((trace ≡ bytes) × (ended calls.replies.now ≡ replies))
+  pub none_told : (differences ≡ []) ↔ ((trace ≡ bytes) × (ended calls.replies.now ≡ replies))
 
 -- the script was not played, by a fault of its own, and that is told
 abbrev pub ShowsRefused : Calls → List (String Global) → Type 0
-ShowsRefused calls notes = (error : PlayError) × IsOfScript error × RefusesScript calls.script.now error × (notes ≢ [])
+ShowsRefused calls differences = (error : PlayError) × IsOfScript error × RefusesScript calls.script.now error × (differences ≢ [])
 
 -- a script was compared; or it is read whole and has a call that the library has not, of which the first has this name
 abbrev pub ShowsCalls : List ℕ → Calls → PartOutcome → Type 0
 ShowsCalls trace calls Absent = ⊥
 ShowsCalls trace calls (LeftOut name) = (script : List Call) × IsScript script calls.script.now × (line : ℕ) × FirstMissing script line name.now
-ShowsCalls trace calls (Compared notes) = ShowsPlayed trace calls notes.items ⊎ ShowsRefused calls notes.items
+ShowsCalls trace calls (Compared differences) = ShowsPlayed trace calls differences.items ⊎ ShowsRefused calls differences.items
 
 -- the same of a recording, which may have no script
 abbrev pub ShowsScript : List ℕ → Option Calls → PartOutcome → Type 0
@@ -76,7 +76,7 @@ ShowsBorrowed trace dump (Some readings) outcome = ShowsDump (Frames Borrowed) t
 abbrev pub ShowsSinkLines : List ℕ → List ℕ → PartOutcome → Type 0
 ShowsSinkLines trace lines Absent = ⊥
 ShowsSinkLines trace lines (LeftOut name) = ⊥
-ShowsSinkLines trace lines (Compared notes) = (text : List ℕ) × IsSinkText trace text × ((notes.items ≡ []) ↔ (ended lines ≡ text))
+ShowsSinkLines trace lines (Compared differences) = (text : List ℕ) × IsSinkText trace text × ((differences.items ≡ []) ↔ (ended lines ≡ text))
 
 -- the same, where its lines were recorded
 abbrev pub ShowsSink : List ℕ → Option Readings → PartOutcome → Type 0
@@ -87,7 +87,7 @@ ShowsSink trace (Some readings) outcome = ShowsSinkLines trace readings.sink.now
 abbrev pub TellsOne : PartOutcome → Type 0
 TellsOne Absent = ⊥
 TellsOne (LeftOut name) = ⊥
-TellsOne (Compared notes) = notes.items ≢ []
+TellsOne (Compared differences) = differences.items ≢ []
 
 -- nothing is compared, and a difference is told of the dump
 pub record ShowsUnread (f : Findings) : Type 0 where

@@ -9,4 +9,5 @@ pub mod Tallies
 pub mod Program
 pub mod Refusals
 pub mod Samples
+pub mod Events
 pub mod Sinks

@@ -29,8 +29,8 @@ use Rattle.trace_recordings.specs.declared.script.definitions.Annotation.{Annota
 use Rattle.trace_recordings.specs.declared.script.definitions.Definition.{Definition}
 use Rattle.trace_recordings.specs.declared.script.pools.PoolText.{PoolText}
 use Rattle.trace_recordings.specs.declared.script.pools.PoolStack.{PoolStack}
-use Rattle.trace_recordings.specs.declared.player.Note.{Note}
-use Rattle.trace_recordings.specs.declared.player.Note.TheVariants as notes
+use Rattle.trace_recordings.specs.declared.player.LineReply.{LineReply}
+use Rattle.trace_recordings.specs.declared.player.LineReply.TheVariants as line_replies
 use Rattle.trace_recordings.specs.declared.player.Handles.{Handles}
 use Rattle.trace_recordings.specs.declared.player.Player.{Player}
 use Rattle.trace_recordings.specs.declared.typed.Sample.{Sample}
@@ -75,15 +75,15 @@ answer_text (Stack id) = stack_text id.0
 answer_text (Refused e) = refusal_text e
 
 -- a reply, and `-` where the encoder was not called
-abbrev pub reply_text : Note → List ℕ
-reply_text notes.Silent = codes "-"
-reply_text notes.Reset = codes "reset"
-reply_text (notes.Resumed size) = codes "resume " ++ decimal size
-reply_text (notes.Answered reply) = answer_text reply
+abbrev pub reply_text : LineReply → List ℕ
+reply_text line_replies.Silent = codes "-"
+reply_text line_replies.Reset = codes "reset"
+reply_text (line_replies.Resumed size) = codes "resume " ++ decimal size
+reply_text (line_replies.Answered reply) = answer_text reply
 
 -- a reply, and how many bytes the encoder had written after it
-unfoldable pub reply_line : Note → ℕ → List ℕ
-reply_line note count = reply_text note ++ codes " bytes=" ++ decimal count ++ codes "\n"
+unfoldable pub reply_line : LineReply → ℕ → List ℕ
+reply_line reply count = reply_text reply ++ codes " bytes=" ++ decimal count ++ codes "\n"
 
 -- ---- what a call asks of an encoder
 
@@ -155,8 +155,8 @@ abbrev pub playing_of : Player → Playing
 playing_of p = record { state = p.encoder.state; defined = defined_in p.handles; bytes = p.played.bytes.items; replies = string_bytes p.played.replies }
 
 -- the line of a reply comes after the others
-abbrev pub with_reply : Note → Playing → Playing
-with_reply note p = record p { replies = p.replies ++ reply_line note p.state.count }
+abbrev pub with_reply : LineReply → Playing → Playing
+with_reply reply p = record p { replies = p.replies ++ reply_line reply p.state.count }
 
 -- the schema of a definition stands under its handle; one that stood there before goes
 abbrev pub with_schema : ℕ → Definition → Playing → Playing
@@ -178,15 +178,15 @@ pub record Asks (p : Playing) (call : Call) (reply : Reply) (q : Playing) : Type
   pub answered : Answered p.state action reply sent q.state
   pub output : q ≡ record p { state = q.state; bytes = p.bytes ++ sent }
 
--- the encoder is asked, and its reply noted
+-- the encoder is asked, and the line of its reply comes after the others
 abbrev pub IsAsked : Playing → Call → Playing → Type 0
-IsAsked p call q = (reply : Reply) × (mid : Playing) × Asks p call reply mid × (q ≡ with_reply (notes.Answered reply) mid)
+IsAsked p call q = (reply : Reply) × (mid : Playing) × Asks p call reply mid × (q ≡ with_reply (line_replies.Answered reply) mid)
 
 -- a new trace begins after the output with its header; or its writer failed, and all is as before
-abbrev pub Resets : Playing → Note → Playing → Type 0
-Resets p notes.Reset q = q ≡ record p { state = fresh_state; bytes = p.bytes ++ header }
-Resets p (notes.Answered (Refused (errors.Writer kind))) q = q ≡ p
-Resets p note q = ⊥
+abbrev pub Resets : Playing → LineReply → Playing → Type 0
+Resets p line_replies.Reset q = q ≡ record p { state = fresh_state; bytes = p.bytes ++ header }
+Resets p (line_replies.Answered (Refused (errors.Writer kind))) q = q ≡ p
+Resets p reply q = ⊥
 
 -- ---- going on after the output
 
@@ -216,24 +216,24 @@ AnswersResumption trace (Ok encoder) = GoesOnAfter trace encoder.state
 AnswersResumption trace (Err error) = RefusesResumption trace error
 
 -- the encoder goes on after the output, whose size is told; or that was refused, and all is as before
-abbrev pub Resumes : Playing → Note → Playing → Type 0
-Resumes p (notes.Resumed size) q = GoesOnAfter p.bytes q.state × (size ≡ length p.bytes) × (q ≡ record p { state = q.state })
-Resumes p (notes.Answered (Refused error)) q = RefusesResumption p.bytes error × (q ≡ p)
-Resumes p note q = ⊥
+abbrev pub Resumes : Playing → LineReply → Playing → Type 0
+Resumes p (line_replies.Resumed size) q = GoesOnAfter p.bytes q.state × (size ≡ length p.bytes) × (q ≡ record p { state = q.state })
+Resumes p (line_replies.Answered (Refused error)) q = RefusesResumption p.bytes error × (q ≡ p)
+Resumes p reply q = ⊥
 
--- a step that answers a note, and that note as a line
-abbrev pub IsNoted : (Playing → Note → Playing → Type 0) → Playing → Playing → Type 0
-IsNoted step p q = (note : Note) × (mid : Playing) × step p note mid × (q ≡ with_reply note mid)
+-- a step that answers a reply, and then the line of that reply
+abbrev pub IsReplied : (Playing → LineReply → Playing → Type 0) → Playing → Playing → Type 0
+IsReplied step p q = (reply : LineReply) × (mid : Playing) × step p reply mid × (q ≡ with_reply reply mid)
 
 -- a call of a script leads from p to q
 abbrev pub Turns : Playing → Call → Playing → Type 0
 Turns p Nothing q = q ≡ p
-Turns p (Define handle definition) q = q ≡ with_reply notes.Silent (with_schema handle definition p)
-Turns p (DefineType handle slot definition) q = (mid : Playing) × DefinesType handle slot definition p mid × (q ≡ with_reply notes.Silent mid)
-Turns p (Raw bytes) q = q ≡ with_reply notes.Silent (record p { bytes = p.bytes ++ bytes.items })
-Turns p Bare q = q ≡ with_reply notes.Silent (record p { bytes = [] })
-Turns p Reset q = IsNoted Resets p q
-Turns p Resume q = IsNoted Resumes p q
+Turns p (Define handle definition) q = q ≡ with_reply line_replies.Silent (with_schema handle definition p)
+Turns p (DefineType handle slot definition) q = (mid : Playing) × DefinesType handle slot definition p mid × (q ≡ with_reply line_replies.Silent mid)
+Turns p (Raw bytes) q = q ≡ with_reply line_replies.Silent (record p { bytes = p.bytes ++ bytes.items })
+Turns p Bare q = q ≡ with_reply line_replies.Silent (record p { bytes = [] })
+Turns p Reset q = IsReplied Resets p q
+Turns p Resume q = IsReplied Resumes p q
 Turns p call q = IsAsked p call q
 
 -- calls lead from p to q, one after another

@@ -10,7 +10,7 @@ use Rattle.trace_writer.specs.declared.encoder.call.Reply.{Reply}
 use Rattle.trace_writer.specs.State.{EncoderView}
 use Rattle.trace_writer.specs.Calls.{Does, write_type}
 use Rattle.trace_recordings.specs.declared.typed.Sample.{Sample}
-use Rattle.trace_recordings.specs.declared.typed.Sample.TheVariants.{Borrowed, Numbers, Options, Wide, FastSlot, Poll, Texts, Stacks, Annotated, LastSlot, ByName, Dynamic, PollAgain, PollNoted, SlotClash, AlsoByName, Nameless}
+use Rattle.trace_recordings.specs.declared.typed.Sample.TheVariants.{Borrowed, Numbers, Options, Wide, FastSlot, Poll, Texts, Stacks, Annotated, LastSlot, ByName, Dynamic, PollAgain, PollAnnotated, SlotClash, AlsoByName, Nameless}
 
 -- the slot
 abbrev pub slot_of : Sample → ℕ
@@ -23,7 +23,7 @@ slot_of LastSlot = 255
 slot_of ByName = 256
 slot_of Dynamic = 1000
 slot_of PollAgain = 0
-slot_of PollNoted = 0
+slot_of PollAnnotated = 0
 slot_of SlotClash = 5
 slot_of AlsoByName = 256
 slot_of Nameless = 0
@@ -43,7 +43,7 @@ entry_in LastSlot = entries.last_slot
 entry_in ByName = entries.other
 entry_in Dynamic = entries.dynamic
 entry_in PollAgain = entries.poll_again
-entry_in PollNoted = entries.poll_noted
+entry_in PollAnnotated = entries.poll_annotated
 entry_in SlotClash = entries.other
 entry_in AlsoByName = entries.also
 entry_in Nameless = entries.nameless
@@ -53,7 +53,7 @@ entry_in Options = entries.options_entry
 entry_in Wide = entries.wide
 
 abbrev pub samples : List Sample
-samples = FastSlot ∷ Poll ∷ Texts ∷ Stacks ∷ Annotated ∷ LastSlot ∷ ByName ∷ Dynamic ∷ PollAgain ∷ PollNoted ∷ SlotClash ∷ AlsoByName ∷ Nameless ∷ Numbers ∷ Borrowed ∷ Options ∷ Wide ∷ []
+samples = FastSlot ∷ Poll ∷ Texts ∷ Stacks ∷ Annotated ∷ LastSlot ∷ ByName ∷ Dynamic ∷ PollAgain ∷ PollAnnotated ∷ SlotClash ∷ AlsoByName ∷ Nameless ∷ Numbers ∷ Borrowed ∷ Options ∷ Wide ∷ []
 
 -- a sample has this slot and this schema
 abbrev pub is_sample : ℕ → Entry → Sample → Bool

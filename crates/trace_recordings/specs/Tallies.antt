@@ -42,7 +42,7 @@ seen_in p = record { compared = p.compared; differences = p.differences; left_ou
 abbrev pub with_outcome : PartOutcome → Seen → Seen
 with_outcome Absent s = s
 with_outcome (LeftOut name) s = record s { left_out = one_more_of name.now s.left_out }
-with_outcome (Compared notes) s = record s { compared = counted_up s.compared 1; differences = counted_up s.differences (length notes.items) }
+with_outcome (Compared differences) s = record s { compared = counted_up s.compared 1; differences = counted_up s.differences (length differences.items) }
 
 -- with what became of the other readings
 abbrev pub with_readings : Findings → Seen → Seen

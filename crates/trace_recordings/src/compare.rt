@@ -11,7 +11,7 @@ pub fn bytes_difference(
     recorded: &[u8],
     found: &[u8],
 ) -> Result<Option<String>, AllocError>
-    ensures { IfOk result (λ note. IsNone note ↔ (recorded.now ≡ found.now)) }
+    ensures { IfOk result (λ difference. IsNone difference ↔ (recorded.now ≡ found.now)) }
 {
     let Some(place) = first_difference(recorded, found) else {
         return Ok(None);
@@ -26,13 +26,13 @@ pub fn lines_difference(
     recorded: &str,
     found: &[u8],
 ) -> Result<Option<String>, AllocError>
-    ensures { IfOk result (λ note. IsNone note ↔ (ended recorded.now ≡ found.now)) }
+    ensures { IfOk result (λ difference. IsNone difference ↔ (ended recorded.now ≡ found.now)) }
 {
     let recorded = ended_lines(alloc, recorded)?;
     let Some(place) = first_difference(recorded.as_bytes(), found) else {
         return Ok(None);
     };
-    Ok(Some(line_note(alloc, recorded.as_bytes(), found, place)?))
+    Ok(Some(difference_in_line(alloc, recorded.as_bytes(), found, place)?))
 }
 
 // The place of the first byte by which two texts differ, or at which one of them ends. None where they are equal.
@@ -67,7 +67,7 @@ fn ended_lines(alloc: Global, lines: &str) -> Result<String, AllocError>
 }
 
 // Tells which line a place stands in, and how both texts have it.
-fn line_note(
+fn difference_in_line(
     alloc: Global,
     recorded: &[u8],
     found: &[u8],

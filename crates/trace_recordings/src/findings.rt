@@ -67,10 +67,10 @@ pub fn findings_of(alloc: Global, recording: Recording<'_>) -> Result<Findings, 
 fn unread_findings(alloc: Global, error: &FromHexError) -> Result<Findings, AllocError>
     ensures { IfOk result ShowsUnread }
 {
-    let note = format!(in alloc; "the recorded bytes cannot be read: {error}")?;
+    let difference = format!(in alloc; "the recorded bytes cannot be read: {error}")?;
     Ok(Findings {
         script: PartOutcome::Absent,
-        dump: PartOutcome::Compared(vec![in alloc; note]?),
+        dump: PartOutcome::Compared(vec![in alloc; difference]?),
         borrowed: PartOutcome::Absent,
         resolved: PartOutcome::Absent,
         sink: PartOutcome::Absent,
@@ -91,13 +91,13 @@ fn script_outcome(
     };
     match play(alloc, calls.script.as_bytes()) {
         Ok(played) => {
-            let notes = played_differences(alloc, calls.replies, trace, &played)?;
-            Ok(PartOutcome::Compared(notes))
+            let differences = played_differences(alloc, calls.replies, trace, &played)?;
+            Ok(PartOutcome::Compared(differences))
         }
         Err(PlayError::LeftOut { call, .. }) => Ok(PartOutcome::LeftOut(call)),
         Err(error) if error.is_of_script() => {
-            let note = format!(in alloc; "the script was not played: {error}")?;
-            Ok(PartOutcome::Compared(vec![in alloc; note]?))
+            let difference = format!(in alloc; "the script was not played: {error}")?;
+            Ok(PartOutcome::Compared(vec![in alloc; difference]?))
         }
         Err(_) => Err(AllocError),
     }
@@ -110,14 +110,14 @@ fn played_differences(
     trace: &[u8],
     played: &Played,
 ) -> Result<Vec<String>, AllocError>
-    ensures { IfOk result (λ notes. (notes.items ≡ []) ↔ ((trace.now ≡ played.now.bytes.items) × (ended replies.now ≡ string_bytes played.now.replies))) }
+    ensures { IfOk result (λ told. (told.items ≡ []) ↔ ((trace.now ≡ played.now.bytes.items) × (ended replies.now ≡ string_bytes played.now.replies))) }
 {
     let mut differences = Vec::new(alloc);
-    if let Some(note) = bytes_difference(alloc, trace, &played.bytes)? {
-        differences.push(note)?;
+    if let Some(difference) = bytes_difference(alloc, trace, &played.bytes)? {
+        differences.push(difference)?;
     }
-    if let Some(note) = lines_difference(alloc, replies, played.replies.as_bytes())? {
-        differences.push(format!(in alloc; "the replies differ: {note}")?)?;
+    if let Some(difference) = lines_difference(alloc, replies, played.replies.as_bytes())? {
+        differences.push(format!(in alloc; "the replies differ: {difference}")?)?;
     }
     Ok(differences)
 }
@@ -166,8 +166,8 @@ fn sink_outcome(
         return Ok(PartOutcome::Absent);
     };
     let found = sink_lines(alloc, trace)?;
-    let notes = text_differences(alloc, SINK_NAME, readings.sink, found.as_bytes())?;
-    Ok(PartOutcome::Compared(notes))
+    let differences = text_differences(alloc, SINK_NAME, readings.sink, found.as_bytes())?;
+    Ok(PartOutcome::Compared(differences))
 }
 
 // Dumps a trace, and compares the lines, whose last one tells the status. A vector as a writer wants nothing but memory.
@@ -183,8 +183,8 @@ fn dump_outcome(
     if dump_as(alloc, trace, &mut found, form) == FAILED {
         return Err(AllocError);
     }
-    let notes = text_differences(alloc, dump_name(form), lines, &found)?;
-    Ok(PartOutcome::Compared(notes))
+    let differences = text_differences(alloc, dump_name(form), lines, &found)?;
+    Ok(PartOutcome::Compared(differences))
 }
 
 // By what name to speak of a dump.
@@ -203,11 +203,11 @@ fn text_differences(
     lines: &str,
     found: &[u8],
 ) -> Result<Vec<String>, AllocError>
-    ensures { IfOk result (λ notes. (notes.items ≡ []) ↔ (ended lines.now ≡ found.now)) }
+    ensures { IfOk result (λ differences. (differences.items ≡ []) ↔ (ended lines.now ≡ found.now)) }
 {
     let mut differences = Vec::new(alloc);
-    if let Some(note) = lines_difference(alloc, lines, found)? {
-        differences.push(format!(in alloc; "{name} differs: {note}")?)?;
+    if let Some(difference) = lines_difference(alloc, lines, found)? {
+        differences.push(format!(in alloc; "{name} differs: {difference}")?)?;
     }
     Ok(differences)
 }

@@ -16,8 +16,9 @@ use std::alloc::{AllocError, AllocFailed, Global};
 use std::collections::BTreeMap;
 use thiserror::Error;
 use trace_values::leb128::EncodeError;
+use trace_values::types::{InternedStackFrames, InternedString};
 use trace_wire::codec::{PoolEntry, StackPoolEntry};
-use trace_wire::schema::{FieldAnnotation, SchemaEntry};
+use trace_wire::schema::{FieldAnnotation, SchemaEntry, WireTypeId};
 use trace_writer::encoder::{Encoder, Reply, Schema};
 use trace_writer::laws::fresh_headline;
 
@@ -158,9 +159,9 @@ fn sample_of(
     Ok(sample_in(slot, schema.entry()))
 }
 
-// What is noted of a line.
+// The reply of a line.
 #[derive(Drop)]
-enum Note {
+enum LineReply {
     // The encoder was not called.
     Silent,
     // What a call of the encoder answered.
@@ -208,7 +209,7 @@ impl Player {
         })
     }
 
-    // Makes the call of a line, and notes its reply.
+    // Makes the call of a line, and appends the line of its reply.
     #[tactic(auto, using(crate::proofs::RefusalLemmas::lacks_type, crate::proofs::RefusalLemmas::lacks_header, crate::proofs::RefusalLemmas::under_definitions))]
     fn make(&mut self, line: usize, call: &Call) -> Result<(), PlayError>
         ensures turns { OnOk result (Turns (playing_of self.old) call.now (playing_of self.new)) }
@@ -218,7 +219,7 @@ impl Player {
             Call::Nothing => Ok(()),
             Call::Define { handle, definition } => {
                 self.define(*handle, definition)?;
-                self.note(Note::Silent)
+                self.add_reply(LineReply::Silent)
             }
             Call::DefineType {
                 handle,
@@ -226,38 +227,38 @@ impl Player {
                 definition,
             } => {
                 self.define_type(line, *handle, *slot, definition)?;
-                self.note(Note::Silent)
+                self.add_reply(LineReply::Silent)
             }
             Call::Raw { bytes } => {
                 self.played.bytes.extend_from_slice(bytes)?;
-                self.note(Note::Silent)
+                self.add_reply(LineReply::Silent)
             }
             Call::Bare => {
                 self.played.bytes.clear();
-                self.note(Note::Silent)
+                self.add_reply(LineReply::Silent)
             }
             Call::Reset => {
-                let note = self.reset()?;
-                self.note(note)
+                let reply = self.reset()?;
+                self.add_reply(reply)
             }
             Call::Resume => {
-                let note = self.resume(line)?;
-                self.note(note)
+                let reply = self.resume(line)?;
+                self.add_reply(reply)
             }
             other => {
                 let reply = self.ask(line, other)?;
-                self.note(Note::Answered(reply))
+                self.add_reply(LineReply::Answered(reply))
             }
         }
     }
 
     // Appends the line of a reply to the others.
-    fn note(&mut self, note: Note) -> Result<(), PlayError>
-        ensures noted { OnOk result (playing_of self.new ≡ with_reply note (playing_of self.old)) }
+    fn add_reply(&mut self, reply: LineReply) -> Result<(), PlayError>
+        ensures added { OnOk result (playing_of self.new ≡ with_reply reply (playing_of self.old)) }
         ensures refused { IfErr result IsOfPlayer }
     {
         let written = self.encoder.bytes_written();
-        push_reply(&mut self.played.replies, note, written)?;
+        push_reply(&mut self.played.replies, reply, written)?;
         Ok(())
     }
 
@@ -290,8 +291,8 @@ impl Player {
     }
 
     // Begins a new trace, whose header it appends to the output.
-    fn reset(&mut self) -> Result<Note, PlayError>
-        ensures resets { IfOk result (λ note. Resets (playing_of self.old) note (playing_of self.new)) }
+    fn reset(&mut self) -> Result<LineReply, PlayError>
+        ensures resets { IfOk result (λ reply. Resets (playing_of self.old) reply (playing_of self.new)) }
         ensures refused { IfErr result IsOfPlayer }
     {
         match self.encoder.reset_to(Vec::new(self.alloc)) {
@@ -299,25 +300,25 @@ impl Player {
                 self.played
                     .bytes
                     .extend_from_slice(self.encoder.as_inner())?;
-                Ok(Note::Reset)
+                Ok(LineReply::Reset)
             }
-            Err(error) => Ok(Note::Answered(Reply::Refused(error))),
+            Err(error) => Ok(LineReply::Answered(Reply::Refused(error))),
         }
     }
 
     // Puts an encoder that goes on after the output in the place of the one before.
-    fn resume(&mut self, line: usize) -> Result<Note, PlayError>
-        ensures resumes { IfOk result (λ note. Resumes (playing_of self.old) note (playing_of self.new)) }
+    fn resume(&mut self, line: usize) -> Result<LineReply, PlayError>
+        ensures resumes { IfOk result (λ reply. Resumes (playing_of self.old) reply (playing_of self.new)) }
         ensures refused { IfErr result (LacksHeader line (playing_of self.old).bytes) }
     {
         match encoder_after(self.alloc, line, &self.played.bytes)? {
             Ok(encoder) => {
                 self.encoder = encoder;
-                Ok(Note::Resumed {
+                Ok(LineReply::Resumed {
                     length: self.played.bytes.len(),
                 })
             }
-            Err(error) => Ok(Note::Answered(Reply::Refused(error))),
+            Err(error) => Ok(LineReply::Answered(Reply::Refused(error))),
         }
     }
 
@@ -382,10 +383,7 @@ fn reply_of(
     match call {
         Call::Register { handle } => {
             let schema = schema_at(&handles.schemas, line, *handle)?;
-            Ok(match encoder.register_existing(schema) {
-                Ok(id) => Reply::WireId(id),
-                Err(error) => Reply::Refused(error),
-            })
+            Ok(wire_id_reply(encoder.register_existing(schema)))
         }
         Call::Event {
             handle,
@@ -393,7 +391,7 @@ fn reply_of(
             values,
         } => {
             let schema = schema_at(&handles.schemas, line, *handle)?;
-            Ok(done(encoder.write_event(schema, *time, values)))
+            Ok(done_reply(encoder.write_event(schema, *time, values)))
         }
         Call::WriteTyped {
             handle,
@@ -406,21 +404,15 @@ fn reply_of(
                 Err(unheld) => Err(unheld_at(line, unheld)),
             }
         }
-        Call::InternString { text } => Ok(match encoder.intern_string(text) {
-            Ok(id) => Reply::Text(id),
-            Err(error) => Reply::Refused(error),
-        }),
-        Call::InternStack { frames } => Ok(match encoder.intern_stack_frames(frames) {
-            Ok(id) => Reply::Stack(id),
-            Err(error) => Reply::Refused(error),
-        }),
+        Call::InternString { text } => Ok(text_reply(encoder.intern_string(text))),
+        Call::InternStack { frames } => Ok(stack_reply(encoder.intern_stack_frames(frames))),
         Call::StringPool { entries } => {
             let entries = pool_of(alloc, entries)?;
-            Ok(done(encoder.write_string_pool(&entries)))
+            Ok(done_reply(encoder.write_string_pool(&entries)))
         }
         Call::StackPool { entries } => {
             let entries = stack_pool_of(alloc, entries)?;
-            Ok(done(encoder.write_stack_pool(&entries)))
+            Ok(done_reply(encoder.write_stack_pool(&entries)))
         }
         other => Err(PlayError::LeftOut {
             line,
@@ -430,11 +422,41 @@ fn reply_of(
 }
 
 // The reply of a call that answers nothing else.
-pub fn done(answer: Result<(), EncodeError>) -> Reply
+pub fn done_reply(answer: Result<(), EncodeError>) -> Reply
     ensures { result ≡ reply_from (λ _. Reply.Done) answer }
 {
     match answer {
         Ok(()) => Reply::Done,
+        Err(error) => Reply::Refused(error),
+    }
+}
+
+// The reply of a call that answers a wire id.
+fn wire_id_reply(answer: Result<WireTypeId, EncodeError>) -> Reply
+    ensures { result ≡ reply_from (λ id. Reply.WireId id) answer }
+{
+    match answer {
+        Ok(id) => Reply::WireId(id),
+        Err(error) => Reply::Refused(error),
+    }
+}
+
+// The reply of a call that answers the id of a text.
+fn text_reply(answer: Result<InternedString, EncodeError>) -> Reply
+    ensures { result ≡ reply_from (λ id. Reply.Text id) answer }
+{
+    match answer {
+        Ok(id) => Reply::Text(id),
+        Err(error) => Reply::Refused(error),
+    }
+}
+
+// The reply of a call that answers the id of a stack.
+fn stack_reply(answer: Result<InternedStackFrames, EncodeError>) -> Reply
+    ensures { result ≡ reply_from (λ id. Reply.Stack id) answer }
+{
+    match answer {
+        Ok(id) => Reply::Stack(id),
         Err(error) => Reply::Refused(error),
     }
 }
@@ -523,14 +545,14 @@ fn unheld_at(line: usize, unheld: Unheld) -> PlayError
 
 // Appends the line of a reply, `-` where the encoder was not called.
 #[tactic(auto, unfolding(crate::specs::Playing::reply_line))]
-fn push_reply(out: &mut String, note: Note, written: u64) -> Result<(), AllocError>
-    ensures { OnOk result (string_bytes out.new ≡ string_bytes out.old ++ reply_line note written) }
+fn push_reply(out: &mut String, reply: LineReply, written: u64) -> Result<(), AllocError>
+    ensures { OnOk result (string_bytes out.new ≡ string_bytes out.old ++ reply_line reply written) }
 {
-    match note {
-        Note::Silent => out.push_str("-")?,
-        Note::Reset => out.push_str("reset")?,
-        Note::Resumed { length } => write!(out, "resume {length}")?,
-        Note::Answered(reply) => push_answer(out, reply)?,
+    match reply {
+        LineReply::Silent => out.push_str("-")?,
+        LineReply::Reset => out.push_str("reset")?,
+        LineReply::Resumed { length } => write!(out, "resume {length}")?,
+        LineReply::Answered(reply) => push_answer(out, reply)?,
     }
     writeln!(out, " bytes={written}")
 }

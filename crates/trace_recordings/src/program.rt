@@ -41,7 +41,7 @@ pub enum Task {
 pub struct Answer {
     pub status: u8,
     pub output: Vec<u8>,
-    pub notes: String,
+    pub error_output: String,
 }
 
 /// Runs the program, and answers the status with which it ends: `GOOD`, `BAD` or `UNREADABLE`.
@@ -160,7 +160,7 @@ fn play_input(rt: &(impl AllocGlobal + Input + Print + Eprint)) -> anyhow::Resul
     rt.reader().read_to_end(&mut text)?;
     let answer = answer_of(alloc, play(alloc, &text))?;
     io::writer(rt).write_all(&answer.output)?;
-    eprint!(rt; "{}", answer.notes)?;
+    eprint!(rt; "{}", answer.error_output)?;
     Ok(answer.status)
 }
 
@@ -173,7 +173,7 @@ pub fn answer_of(alloc: Global, played: Result<Played, PlayError>) -> Result<Ans
         Ok(played) => Ok(Answer {
             status: GOOD,
             output: played.bytes,
-            notes: played.replies,
+            error_output: played.replies,
         }),
         Err(error) => Ok(Answer {
             status: if error.is_of_script() {
@@ -182,7 +182,7 @@ pub fn answer_of(alloc: Global, played: Result<Played, PlayError>) -> Result<Ans
                 BAD
             },
             output: Vec::new(alloc),
-            notes: format!(in alloc; "{error}\n")?,
+            error_output: format!(in alloc; "{error}\n")?,
         }),
     }
 }

@@ -44,11 +44,11 @@ fn stream_lines(alloc: Global, decoder: &mut Decoder<'_>) -> Result<String, Allo
     let mut counter = Counter { events: 0 };
     let ended = decoder.for_each_event(&mut counter);
     let told = told_of(alloc, &ended)?;
-    lines_of(alloc, counter.events, &told, Decoder::position(decoder))
+    told_lines(alloc, counter.events, &told, Decoder::position(decoder))
 }
 
 // The lines of so many events that were shown, of how that ended, and of the place there.
-fn lines_of(alloc: Global, events: u64, told: &str, place: usize) -> Result<String, AllocError>
+fn told_lines(alloc: Global, events: u64, told: &str, place: usize) -> Result<String, AllocError>
     ensures { IfOk result (λ lines. string_bytes lines ≡ sink_text events told.now place) }
 {
     let mut lines = String::new(alloc);

@@ -9,12 +9,12 @@ ghost use Rattle.trace_recordings.specs.declared.typed.Unheld.TheVariants.{Memor
 mod events;
 mod fields;
 
-use crate::player::done;
+use crate::player::done_reply;
 use events::HoldsValues;
 use std::alloc::{AllocError, AllocFailed, Global};
 use trace_samples::events::{
     AlsoByName, Annotated, Borrowed, ByName, Dynamic, FastSlot, LastSlot, Nameless, Numbers,
-    Options, Poll, PollAgain, PollNoted, SlotClash, Stacks, Texts, Wide,
+    Options, Poll, PollAgain, PollAnnotated, SlotClash, Stacks, Texts, Wide,
 };
 use trace_values::types::FieldValue;
 use trace_wire::schema::SchemaEntry;
@@ -33,7 +33,7 @@ pub enum Sample {
     ByName,
     Dynamic,
     PollAgain,
-    PollNoted,
+    PollAnnotated,
     SlotClash,
     AlsoByName,
     Nameless,
@@ -54,7 +54,7 @@ const SAMPLES: [Sample; 17] = [
     Sample::ByName,
     Sample::Dynamic,
     Sample::PollAgain,
-    Sample::PollNoted,
+    Sample::PollAnnotated,
     Sample::SlotClash,
     Sample::AlsoByName,
     Sample::Nameless,
@@ -121,7 +121,7 @@ fn is_of(sample: Sample, slot: u64, entry: &SchemaEntry) -> bool
         Sample::ByName => is_type::<ByName>(slot, entry),
         Sample::Dynamic => is_type::<Dynamic>(slot, entry),
         Sample::PollAgain => is_type::<PollAgain>(slot, entry),
-        Sample::PollNoted => is_type::<PollNoted>(slot, entry),
+        Sample::PollAnnotated => is_type::<PollAnnotated>(slot, entry),
         Sample::SlotClash => is_type::<SlotClash>(slot, entry),
         Sample::AlsoByName => is_type::<AlsoByName>(slot, entry),
         Sample::Nameless => is_type::<Nameless>(slot, entry),
@@ -159,7 +159,7 @@ pub fn write_sample(
         Sample::ByName => write_as::<ByName>(alloc, encoder, time, values),
         Sample::Dynamic => write_as::<Dynamic>(alloc, encoder, time, values),
         Sample::PollAgain => write_as::<PollAgain>(alloc, encoder, time, values),
-        Sample::PollNoted => write_as::<PollNoted>(alloc, encoder, time, values),
+        Sample::PollAnnotated => write_as::<PollAnnotated>(alloc, encoder, time, values),
         Sample::SlotClash => write_as::<SlotClash>(alloc, encoder, time, values),
         Sample::AlsoByName => write_as::<AlsoByName>(alloc, encoder, time, values),
         Sample::Nameless => write_as::<Nameless>(alloc, encoder, time, values),
@@ -180,5 +180,5 @@ fn write_as<'a, T: HoldsValues<'a> + Drop>(
     ensures { IfOk result (WritesEvent T.slot T.entry time (views values.now) encoder.old encoder.new) }
 {
     let event = T::of_values(alloc, time, values)?;
-    Ok(done(encoder.write(&event)))
+    Ok(done_reply(encoder.write(&event)))
 }

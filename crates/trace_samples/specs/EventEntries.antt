@@ -14,8 +14,8 @@ abbrev pub defined : Bor (List ℕ) × FieldType → Field
 defined pair = field pair.0.now pair.1
 
 -- a key and a value for the field of this index
-abbrev pub note : ℕ → List ℕ → List ℕ → Annotation
-note index key value = record { index = index; key = key; value = value }
+abbrev pub annotation : ℕ → List ℕ → List ℕ → Annotation
+annotation index key value = record { index = index; key = key; value = value }
 
 -- a schema without annotations
 abbrev pub entry : List ℕ → List Field → Entry
@@ -36,8 +36,8 @@ abbrev pub annotated_entry : Entry
 annotated_entry = record {
   name = codes "Annotated";
   fields = field (codes "load") types.U8 ∷ [];
-  annotations = note 0 (codes "unit") (codes "ns")
-      ∷ note 65535 (codes "") (codes "") ∷ [];
+  annotations = annotation 0 (codes "unit") (codes "ns")
+      ∷ annotation 65535 (codes "") (codes "") ∷ [];
 }
 
 abbrev pub also : Entry
@@ -53,12 +53,12 @@ poll = entry (codes "Poll") (field (codes "worker") types.Varint ∷ field (code
 abbrev pub poll_again : Entry
 poll_again = entry (codes "Poll") (field (codes "worker") types.Varint ∷ field (codes "core") types.U8 ∷ [])
 
-abbrev pub poll_noted : Entry
-poll_noted = record {
+abbrev pub poll_annotated : Entry
+poll_annotated = record {
   name = codes "Poll";
   fields = field (codes "worker") types.Varint ∷ field (codes "cpu") types.OptionalU32
       ∷ field (codes "label") types.PooledString ∷ [];
-  annotations = note 1 (codes "unit") (codes "index") ∷ [];
+  annotations = annotation 1 (codes "unit") (codes "index") ∷ [];
 }
 
 abbrev pub texts_entry : Entry
@@ -75,63 +75,23 @@ stacks_entry = entry (codes "Stacks") (field (codes "frames") types.StackFrames 
 abbrev pub dynamic : Entry
 dynamic = entry (codes "Dynamic") (field (codes "items") types.DynamicList ∷ field (codes "table") types.DynamicMap ∷ [])
 
--- the fields of `Numbers`, and those from one on
-abbrev pub numbers_fields_6 : List Field
-numbers_fields_6 = field (codes "flag") types.Bool ∷ []
-
-abbrev pub numbers_fields_3 : List Field
-numbers_fields_3 = field (codes "long") types.Varint ∷ field (codes "signed") types.I64 ∷ field (codes "real") types.F64 ∷ numbers_fields_6
-
-abbrev pub numbers_fields : List Field
-numbers_fields = field (codes "byte") types.U8 ∷ field (codes "short") types.U16 ∷ field (codes "word") types.U32 ∷ numbers_fields_3
-
 abbrev pub numbers_entry : Entry
-numbers_entry = entry (codes "Numbers") numbers_fields
-
--- the fields of `Options`, and those from one on
-abbrev pub options_fields_12 : List Field
-options_fields_12 = field (codes "pairs") types.OptionalStringMap ∷ []
-
-abbrev pub options_fields_9 : List Field
-options_fields_9 = field (codes "frames") types.OptionalStackFrames ∷ field (codes "label") types.OptionalPooledString
-    ∷ field (codes "stack") types.OptionalPooledStackFrames ∷ options_fields_12
-
-abbrev pub options_fields_6 : List Field
-options_fields_6 = field (codes "flag") types.OptionalBool ∷ field (codes "text") types.OptionalString
-    ∷ field (codes "blob") types.OptionalBytes ∷ options_fields_9
-
-abbrev pub options_fields_3 : List Field
-options_fields_3 = field (codes "long") types.OptionalVarint ∷ field (codes "signed") types.OptionalI64
-    ∷ field (codes "real") types.OptionalF64 ∷ options_fields_6
-
-abbrev pub options_fields : List Field
-options_fields = field (codes "byte") types.OptionalU8 ∷ field (codes "short") types.OptionalU16 ∷ field (codes "word") types.OptionalU32
-    ∷ options_fields_3
+numbers_entry = entry (codes "Numbers") (field (codes "byte") types.U8 ∷ field (codes "short") types.U16 ∷ field (codes "word") types.U32
+    ∷ field (codes "long") types.Varint ∷ field (codes "signed") types.I64 ∷ field (codes "real") types.F64
+    ∷ field (codes "flag") types.Bool ∷ [])
 
 abbrev pub options_entry : Entry
-options_entry = entry (codes "Options") options_fields
-
--- the fields of `Wide`, and those from one on
-abbrev pub wide_fields_18 : List Field
-wide_fields_18 = field (codes "v18") types.Varint ∷ field (codes "v19") types.Varint ∷ []
-
-abbrev pub wide_fields_15 : List Field
-wide_fields_15 = field (codes "v15") types.Varint ∷ field (codes "v16") types.Varint ∷ field (codes "v17") types.Varint ∷ wide_fields_18
-
-abbrev pub wide_fields_12 : List Field
-wide_fields_12 = field (codes "v12") types.Varint ∷ field (codes "v13") types.Varint ∷ field (codes "v14") types.Varint ∷ wide_fields_15
-
-abbrev pub wide_fields_9 : List Field
-wide_fields_9 = field (codes "v9") types.Varint ∷ field (codes "v10") types.Varint ∷ field (codes "v11") types.Varint ∷ wide_fields_12
-
-abbrev pub wide_fields_6 : List Field
-wide_fields_6 = field (codes "v6") types.Varint ∷ field (codes "v7") types.Varint ∷ field (codes "v8") types.Varint ∷ wide_fields_9
-
-abbrev pub wide_fields_3 : List Field
-wide_fields_3 = field (codes "v3") types.Varint ∷ field (codes "v4") types.Varint ∷ field (codes "v5") types.Varint ∷ wide_fields_6
-
-abbrev pub wide_fields : List Field
-wide_fields = field (codes "v0") types.Varint ∷ field (codes "v1") types.Varint ∷ field (codes "v2") types.Varint ∷ wide_fields_3
+options_entry = entry (codes "Options") (field (codes "byte") types.OptionalU8 ∷ field (codes "short") types.OptionalU16 ∷ field (codes "word") types.OptionalU32
+    ∷ field (codes "long") types.OptionalVarint ∷ field (codes "signed") types.OptionalI64 ∷ field (codes "real") types.OptionalF64
+    ∷ field (codes "flag") types.OptionalBool ∷ field (codes "text") types.OptionalString ∷ field (codes "blob") types.OptionalBytes
+    ∷ field (codes "frames") types.OptionalStackFrames ∷ field (codes "label") types.OptionalPooledString ∷ field (codes "stack") types.OptionalPooledStackFrames
+    ∷ field (codes "pairs") types.OptionalStringMap ∷ [])
 
 abbrev pub wide : Entry
-wide = entry (codes "Wide") wide_fields
+wide = entry (codes "Wide") (field (codes "v0") types.Varint ∷ field (codes "v1") types.Varint ∷ field (codes "v2") types.Varint
+    ∷ field (codes "v3") types.Varint ∷ field (codes "v4") types.Varint ∷ field (codes "v5") types.Varint
+    ∷ field (codes "v6") types.Varint ∷ field (codes "v7") types.Varint ∷ field (codes "v8") types.Varint
+    ∷ field (codes "v9") types.Varint ∷ field (codes "v10") types.Varint ∷ field (codes "v11") types.Varint
+    ∷ field (codes "v12") types.Varint ∷ field (codes "v13") types.Varint ∷ field (codes "v14") types.Varint
+    ∷ field (codes "v15") types.Varint ∷ field (codes "v16") types.Varint ∷ field (codes "v17") types.Varint
+    ∷ field (codes "v18") types.Varint ∷ field (codes "v19") types.Varint ∷ [])

@@ -17,6 +17,6 @@ pub use lists::Dynamic;
 pub use names::{AlsoByName, ByName, Nameless};
 pub use numbers::Numbers;
 pub use options::Options;
-pub use polls::{Poll, PollAgain, PollNoted};
+pub use polls::{Poll, PollAgain, PollAnnotated};
 pub use slots::{Annotated, FastSlot, LastSlot, SlotClash};
 pub use wide::Wide;

@@ -37,7 +37,7 @@ impl Model for Told {
 impl TraceWrite for Told {
     ghost told = { all_told };
 
-    /// Accepts of the piece what the script allows. Where that is nothing, it fails by the script, and notes the fault.
+    /// Accepts of the piece what the script allows. Where that is nothing, it fails by the script, and tells the fault.
     fn send(&mut self, piece: &[u8]) -> io::Result<usize>
         ensures within { IfOk result (λ n. n ≤ length piece.now) }
         ensures took { Took (all_told self.old) (all_told self.new) (taken result piece.now) (send_faults result piece.now) }
@@ -57,7 +57,7 @@ impl TraceWrite for Told {
         Ok(count)
     }
 
-    /// Notes that all bytes were handed on, or fails by the script, and notes the fault.
+    /// Notes that all bytes were handed on, or fails by the script, and tells the fault.
     fn settle(&mut self) -> io::Result<()>
         ensures took { Took (all_told self.old) (all_told self.new) [] (settle_faults result) }
         ensures settles { Settles (all_told self.old) (all_told self.new) result }
@@ -108,7 +108,7 @@ impl Told {
         self.handed == self.length
     }
 
-    // Refuses a piece that is not empty by the script, and notes the fault.
+    // Refuses a piece that is not empty by the script, and tells the fault.
     fn refuse(&mut self, piece: &[u8]) -> io::Result<usize>
         requires { length piece.now ≢ 0 }
         ensures took { Took (all_told self.old) (all_told self.new) (taken result piece.now) (send_faults result piece.now) }

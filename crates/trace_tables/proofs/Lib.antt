@@ -1,4 +1,4 @@
-pub mod Found
+pub mod CopiedOption
 pub mod SortedEntries
 pub mod MapLemmas
 pub mod DenseLemmas

@@ -45,72 +45,68 @@ fn word_of(line: &[u8]) -> Option<Call>
 fn parts_of(alloc: Global, line: &[u8]) -> Result<Call, Fault>
     ensures { IfOk result (λ call. Says call line.now) }
 {
-    if let Some(rest) = after_mark(line, b"define ") {
-        return define(alloc, rest);
+    let (word, rest) = first_word(line);
+    match word {
+        b"define" => define_call(alloc, rest),
+        b"register" => register_call(alloc, rest),
+        b"event" => event_call(alloc, rest),
+        b"type" => type_call(alloc, rest),
+        b"write" => write_call(alloc, rest),
+        b"string" => string_call(alloc, rest),
+        b"stack" => stack_call(alloc, rest),
+        b"strings" => strings_call(alloc, rest),
+        b"stacks" => stacks_call(alloc, rest),
+        b"raw" => raw_call(alloc, rest),
+        _ => Err(Fault::Call),
     }
-    if let Some(rest) = after_mark(line, b"register ") {
-        let (handle, rest) = number_at(alloc, rest)?;
-        ended(rest)?;
-        return Ok(Call::Register { handle });
-    }
-    if let Some(rest) = after_mark(line, b"event ") {
-        let (handle, time, values) = event(alloc, rest)?;
-        return Ok(Call::Event {
-            handle,
-            time,
-            values,
-        });
-    }
-    if let Some(rest) = after_mark(line, b"type ") {
-        return event_type(alloc, rest);
-    }
-    if let Some(rest) = after_mark(line, b"write ") {
-        let (handle, time, values) = event(alloc, rest)?;
-        return Ok(Call::WriteTyped {
-            handle,
-            time,
-            values,
-        });
-    }
-    if let Some(rest) = after_mark(line, b"string ") {
-        let (text, rest) = name_at(alloc, rest)?;
-        ended(rest)?;
-        return Ok(Call::InternString { text });
-    }
-    if let Some(rest) = after_mark(line, b"stack ") {
-        let (frames, rest) = addresses_at(alloc, rest)?;
-        ended(rest)?;
-        return Ok(Call::InternStack { frames });
-    }
-    if let Some(rest) = after_mark(line, b"strings") {
-        let entries = pool_texts(alloc, rest)?;
-        return Ok(Call::StringPool { entries });
-    }
-    if let Some(rest) = after_mark(line, b"stacks") {
-        let entries = pool_stacks(alloc, rest)?;
-        return Ok(Call::StackPool { entries });
-    }
-    if let Some(rest) = after_mark(line, b"raw ") {
-        let bytes = hex_bytes(alloc, rest)?;
-        return Ok(Call::Raw { bytes });
-    }
-    Err(Fault::Call)
+}
+
+// The line up to its first space, and the rest.
+fn first_word(line: &[u8]) -> (&[u8], &[u8])
+    ensures { line.now ≡ result.0.now ++ result.1.now }
+{
+    let end = line
+        .iter()
+        .position(|byte| *byte == b' ')
+        .unwrap_or(line.len());
+    line.split_at(end)
 }
 
 // A handle, and what the schema is.
-fn define(alloc: Global, line: &[u8]) -> Result<Call, Fault>
-    ensures { IfOk result (λ call. Says call (codes "define " ++ line.now)) }
+fn define_call(alloc: Global, line: &[u8]) -> Result<Call, Fault>
+    ensures { IfOk result (λ call. Says call (codes "define" ++ line.now)) }
 {
-    let (handle, rest) = number_at(alloc, line)?;
+    let (handle, rest) = number_at(alloc, space(line)?)?;
     let definition = definition_of(alloc, space(rest)?)?;
     Ok(Call::Define { handle, definition })
 }
 
-// A handle, a slot, and what the type's events are.
-fn event_type(alloc: Global, line: &[u8]) -> Result<Call, Fault>
-    ensures { IfOk result (λ call. Says call (codes "type " ++ line.now)) }
+// A handle.
+fn register_call(alloc: Global, line: &[u8]) -> Result<Call, Fault>
+    ensures { IfOk result (λ call. Says call (codes "register" ++ line.now)) }
 {
-    let (handle, rest) = number_at(alloc, line)?;
+    let (handle, rest) = number_at(alloc, space(line)?)?;
+    nothing_left(rest)?;
+    Ok(Call::Register { handle })
+}
+
+// What an event is.
+fn event_call(alloc: Global, line: &[u8]) -> Result<Call, Fault>
+    ensures { IfOk result (λ call. Says call (codes "event" ++ line.now)) }
+{
+    let (handle, time, values) = event_parts(alloc, space(line)?)?;
+    Ok(Call::Event {
+        handle,
+        time,
+        values,
+    })
+}
+
+// A handle, a slot, and what the type's events are.
+fn type_call(alloc: Global, line: &[u8]) -> Result<Call, Fault>
+    ensures { IfOk result (λ call. Says call (codes "type" ++ line.now)) }
+{
+    let (handle, rest) = number_at(alloc, space(line)?)?;
     let (slot, rest) = number_at(alloc, space(rest)?)?;
     let definition = definition_of(alloc, space(rest)?)?;
     Ok(Call::DefineType {
@@ -120,9 +116,63 @@ fn event_type(alloc: Global, line: &[u8]) -> Result<Call, Fault>
     })
 }
 
+// What an event of a type is.
+fn write_call(alloc: Global, line: &[u8]) -> Result<Call, Fault>
+    ensures { IfOk result (λ call. Says call (codes "write" ++ line.now)) }
+{
+    let (handle, time, values) = event_parts(alloc, space(line)?)?;
+    Ok(Call::WriteTyped {
+        handle,
+        time,
+        values,
+    })
+}
+
+// A text.
+fn string_call(alloc: Global, line: &[u8]) -> Result<Call, Fault>
+    ensures { IfOk result (λ call. Says call (codes "string" ++ line.now)) }
+{
+    let (text, rest) = name_at(alloc, space(line)?)?;
+    nothing_left(rest)?;
+    Ok(Call::InternString { text })
+}
+
+// Addresses.
+fn stack_call(alloc: Global, line: &[u8]) -> Result<Call, Fault>
+    ensures { IfOk result (λ call. Says call (codes "stack" ++ line.now)) }
+{
+    let (frames, rest) = addresses_at(alloc, space(line)?)?;
+    nothing_left(rest)?;
+    Ok(Call::InternStack { frames })
+}
+
+// The entries of a string pool.
+fn strings_call(alloc: Global, line: &[u8]) -> Result<Call, Fault>
+    ensures { IfOk result (λ call. Says call (codes "strings" ++ line.now)) }
+{
+    let entries = pool_texts(alloc, line)?;
+    Ok(Call::StringPool { entries })
+}
+
+// The entries of a stack pool.
+fn stacks_call(alloc: Global, line: &[u8]) -> Result<Call, Fault>
+    ensures { IfOk result (λ call. Says call (codes "stacks" ++ line.now)) }
+{
+    let entries = pool_stacks(alloc, line)?;
+    Ok(Call::StackPool { entries })
+}
+
+// Bytes.
+fn raw_call(alloc: Global, line: &[u8]) -> Result<Call, Fault>
+    ensures { IfOk result (λ call. Says call (codes "raw" ++ line.now)) }
+{
+    let bytes = hex_bytes(alloc, space(line)?)?;
+    Ok(Call::Raw { bytes })
+}
+
 // A handle, a time, and the values of an event.
 #[tactic(auto, unfolding(crate::specs::Scripts::event_text))]
-fn event(alloc: Global, line: &[u8]) -> Result<(u64, u64, Vec<FieldValue>), Fault>
+fn event_parts(alloc: Global, line: &[u8]) -> Result<(u64, u64, Vec<FieldValue>), Fault>
     ensures { IfOk result (λ x. line.now ≡ event_text x.0 x.1 (views x.2.items)) }
 {
     let (handle, rest) = number_at(alloc, line)?;
@@ -188,7 +238,7 @@ fn space(line: &[u8]) -> Result<&[u8], Fault>
 }
 
 // Nothing stands there.
-fn ended(line: &[u8]) -> Result<(), Fault>
+fn nothing_left(line: &[u8]) -> Result<(), Fault>
     ensures { OnOk result (line.now ≡ []) }
 {
     if !line.is_empty() {

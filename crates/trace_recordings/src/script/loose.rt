@@ -1,7 +1,7 @@
 //! What a part of a line seems to say. Nothing here minds how exactly a part is spelled: the caller prints what was found, and
 //! sees whether the line begins with that.
 
-ghost use Rattle.std.specs.Prelude.{◌≡◌, ◌-◌, ◌+◌, ◌<◌, ◌≤◌, drop, length, IfOk};
+ghost use Rattle.std.specs.Prelude.{◌≡◌, ◌-◌, ◌+◌, ◌<◌, ◌≤◌, drop, length, IfOk, IfSome};
 
 use crate::script::fault::Fault;
 use crate::script::parts::after_mark;
@@ -82,57 +82,86 @@ pub fn addresses(alloc: Global, line: &[u8]) -> Result<(Vec<u64>, &[u8]), Fault>
 pub fn value(alloc: Global, levels: u32, line: &[u8]) -> Result<(FieldValue, &[u8]), Fault>
     ensures { IfOk result (λ x. length x.1.now < length line.now) }
 {
+    if let Some(found) = plain(line) {
+        return Ok(found);
+    }
+    if let Some(found) = pooled(line)? {
+        return Ok(found);
+    }
+    if let Some(found) = held(alloc, line)? {
+        return Ok(found);
+    }
+    inside(alloc, levels, line)
+}
+
+// A value of fixed width or none at the front, and the rest.
+fn plain(line: &[u8]) -> Option<(FieldValue, &[u8])>
+    ensures { IfSome result (λ x. length x.1.now < length line.now) }
+{
     if let Some(rest) = after_mark(line, b"None") {
-        return Ok((FieldValue::None, rest));
+        return Some((FieldValue::None, rest));
+    }
+    if let Some(rest) = after_mark(line, b"Bool:true") {
+        return Some((FieldValue::Bool(true), rest));
+    }
+    if let Some(rest) = after_mark(line, b"Bool:false") {
+        return Some((FieldValue::Bool(false), rest));
     }
     if let Some(rest) = after_mark(line, b"I64:") {
-        return Ok(integer(rest));
+        return Some(integer(rest));
     }
     if let Some(rest) = after_mark(line, b"F64:0x") {
         let (bits, rest) = number(rest, 16);
-        return Ok((FieldValue::F64(bits), rest));
+        return Some((FieldValue::F64(bits), rest));
     }
-    if let Some(rest) = after_mark(line, b"Bool:true") {
-        return Ok((FieldValue::Bool(true), rest));
+    if let Some(rest) = after_mark(line, b"Varint:") {
+        let (number, rest) = number(rest, 10);
+        return Some((FieldValue::Varint(number), rest));
     }
-    if let Some(rest) = after_mark(line, b"Bool:false") {
-        return Ok((FieldValue::Bool(false), rest));
-    }
-    if let Some(rest) = after_mark(line, b"String:") {
-        let (bytes, rest) = text(alloc, rest)?;
-        let text = String::from_utf8(bytes).map_err(|_| Fault::Utf8)?;
-        return Ok((FieldValue::String(text), rest));
-    }
-    if let Some(rest) = after_mark(line, b"Bytes:") {
-        let (bytes, rest) = text(alloc, rest)?;
-        return Ok((FieldValue::Bytes(bytes), rest));
-    }
+    None
+}
+
+// The id of a text or of a stack at the front, and the rest.
+fn pooled(line: &[u8]) -> Result<Option<(FieldValue, &[u8])>, Fault>
+    ensures { IfOk result (λ found. IfSome found (λ x. length x.1.now < length line.now)) }
+{
     if let Some(rest) = after_mark(line, b"PooledString:pool#") {
         let (id, rest) = number(rest, 10);
         let id = u32::try_from(id).map_err(|_| Fault::TooLarge)?;
-        return Ok((FieldValue::PooledString(InternedString::from_raw(id)), rest));
+        let id = InternedString::from_raw(id);
+        return Ok(Some((FieldValue::PooledString(id), rest)));
     }
     if let Some(rest) = after_mark(line, b"PooledStackFrames:stack#") {
         let (id, rest) = number(rest, 10);
         let id = u32::try_from(id).map_err(|_| Fault::TooLarge)?;
-        return Ok((
-            FieldValue::PooledStackFrames(InternedStackFrames::from_raw(id)),
-            rest,
-        ));
+        let id = InternedStackFrames::from_raw(id);
+        return Ok(Some((FieldValue::PooledStackFrames(id), rest)));
+    }
+    Ok(None)
+}
+
+// A text, bytes, addresses or a map of texts at the front, and the rest.
+fn held(alloc: Global, line: &[u8]) -> Result<Option<(FieldValue, &[u8])>, Fault>
+    ensures { IfOk result (λ found. IfSome found (λ x. length x.1.now < length line.now)) }
+{
+    if let Some(rest) = after_mark(line, b"String:") {
+        let (bytes, rest) = text(alloc, rest)?;
+        let text = String::from_utf8(bytes).map_err(|_| Fault::Utf8)?;
+        return Ok(Some((FieldValue::String(text), rest)));
+    }
+    if let Some(rest) = after_mark(line, b"Bytes:") {
+        let (bytes, rest) = text(alloc, rest)?;
+        return Ok(Some((FieldValue::Bytes(bytes), rest)));
     }
     if let Some(rest) = after_mark(line, b"StackFrames:") {
         let (frames, rest) = addresses(alloc, rest)?;
-        return Ok((FieldValue::StackFrames(StackFrames(frames)), rest));
-    }
-    if let Some(rest) = after_mark(line, b"Varint:") {
-        let (number, rest) = number(rest, 10);
-        return Ok((FieldValue::Varint(number), rest));
+        return Ok(Some((FieldValue::StackFrames(StackFrames(frames)), rest)));
     }
     if let Some(rest) = after_mark(line, b"StringMap:{") {
         let (pairs, rest) = text_pairs(alloc, rest)?;
-        return Ok((FieldValue::StringMap(pairs), rest));
+        return Ok(Some((FieldValue::StringMap(pairs), rest)));
     }
-    inside(alloc, levels, line)
+    Ok(None)
 }
 
 // A number with its sign, and the rest. It wraps at 64 bits.

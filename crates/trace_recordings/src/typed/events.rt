@@ -1,14 +1,16 @@
 //! Events of the sample types, from values.
 
-ghost use Rattle.std.specs.Prelude.{◌≡◌, IfOk};
+ghost use Rattle.std.specs.Prelude.{◌≡◌, IfOk, IfSome, map};
+ghost use Rattle.trace_values.specs.Values.{number};
 ghost use Rattle.trace_values.specs.View.{views};
+ghost use Rattle.trace_recordings.specs.Events.{optional_numbers, optional_texts, wide_numbers};
 
 use crate::typed::Unheld;
 use crate::typed::fields::HoldsValue;
 use std::alloc::Global;
 use trace_samples::events::{
     AlsoByName, Annotated, Borrowed, ByName, Dynamic, FastSlot, LastSlot, Nameless, Numbers,
-    Options, Poll, PollAgain, PollNoted, SlotClash, Stacks, Texts, Wide,
+    Options, Poll, PollAgain, PollAnnotated, SlotClash, Stacks, Texts, Wide,
 };
 use trace_values::types::{
     BytesField, F64Bits, FieldValue, InternedStackFrames, InternedString, StackFrames, StrField,
@@ -132,12 +134,16 @@ impl<'a> HoldsValues<'a> for PollAgain {
     }
 }
 
-impl<'a> HoldsValues<'a> for PollNoted {
-    fn of_values(alloc: Global, time: u64, values: &'a [FieldValue]) -> Result<PollNoted, Unheld> {
+impl<'a> HoldsValues<'a> for PollAnnotated {
+    fn of_values(
+        alloc: Global,
+        time: u64,
+        values: &'a [FieldValue],
+    ) -> Result<PollAnnotated, Unheld> {
         let [worker, cpu, label] = values else {
             return Err(Unheld::Unfit);
         };
-        Ok(PollNoted {
+        Ok(PollAnnotated {
             time,
             worker: u64::of_value(alloc, worker)?,
             cpu: Option::<u32>::of_value(alloc, cpu)?,
@@ -218,7 +224,26 @@ impl<'a> HoldsValues<'a> for Borrowed<'a> {
 
 impl<'a> HoldsValues<'a> for Options {
     fn of_values(alloc: Global, time: u64, values: &'a [FieldValue]) -> Result<Options, Unheld> {
-        let [
+        let (first, last) = values.split_at_checked(7).ok_or(Unheld::Unfit)?;
+        let OptionalNumbers {
+            byte,
+            short,
+            word,
+            long,
+            signed,
+            real,
+            flag,
+        } = optional_numbers_of(alloc, first)?;
+        let OptionalTexts {
+            text,
+            blob,
+            frames,
+            label,
+            stack,
+            pairs,
+        } = optional_texts_of(alloc, last)?;
+        Ok(Options {
+            time,
             byte,
             short,
             word,
@@ -232,78 +257,116 @@ impl<'a> HoldsValues<'a> for Options {
             label,
             stack,
             pairs,
-        ] = values
-        else {
-            return Err(Unheld::Unfit);
-        };
-        Ok(Options {
-            time,
-            byte: Option::<u8>::of_value(alloc, byte)?,
-            short: Option::<u16>::of_value(alloc, short)?,
-            word: Option::<u32>::of_value(alloc, word)?,
-            long: Option::<u64>::of_value(alloc, long)?,
-            signed: Option::<i64>::of_value(alloc, signed)?,
-            real: Option::<F64Bits>::of_value(alloc, real)?,
-            flag: Option::<bool>::of_value(alloc, flag)?,
-            text: Option::<String>::of_value(alloc, text)?,
-            blob: Option::<Vec<u8>>::of_value(alloc, blob)?,
-            frames: Option::<StackFrames>::of_value(alloc, frames)?,
-            label: Option::<InternedString>::of_value(alloc, label)?,
-            stack: Option::<InternedStackFrames>::of_value(alloc, stack)?,
-            pairs: Option::<Vec<(String, String)>>::of_value(alloc, pairs)?,
         })
     }
 }
 
+// The first fields of `Options`.
+#[derive(Clone, Copy)]
+struct OptionalNumbers {
+    byte: Option<u8>,
+    short: Option<u16>,
+    word: Option<u32>,
+    long: Option<u64>,
+    signed: Option<i64>,
+    real: Option<F64Bits>,
+    flag: Option<bool>,
+}
+
+// The other fields of `Options`.
+#[derive(Drop)]
+struct OptionalTexts {
+    text: Option<String>,
+    blob: Option<Vec<u8>>,
+    frames: Option<StackFrames>,
+    label: Option<InternedString>,
+    stack: Option<InternedStackFrames>,
+    pairs: Option<Vec<(String, String)>>,
+}
+
+// The first fields of `Options`, from their values.
+fn optional_numbers_of(alloc: Global, values: &[FieldValue]) -> Result<OptionalNumbers, Unheld>
+    ensures { IfOk result (λ fields. optional_numbers fields ≡ views values.now) }
+{
+    let [byte, short, word, long, signed, real, flag] = values else {
+        return Err(Unheld::Unfit);
+    };
+    Ok(OptionalNumbers {
+        byte: Option::<u8>::of_value(alloc, byte)?,
+        short: Option::<u16>::of_value(alloc, short)?,
+        word: Option::<u32>::of_value(alloc, word)?,
+        long: Option::<u64>::of_value(alloc, long)?,
+        signed: Option::<i64>::of_value(alloc, signed)?,
+        real: Option::<F64Bits>::of_value(alloc, real)?,
+        flag: Option::<bool>::of_value(alloc, flag)?,
+    })
+}
+
+// The other fields of `Options`, from their values.
+fn optional_texts_of(alloc: Global, values: &[FieldValue]) -> Result<OptionalTexts, Unheld>
+    ensures { IfOk result (λ fields. optional_texts fields ≡ views values.now) }
+{
+    let [text, blob, frames, label, stack, pairs] = values else {
+        return Err(Unheld::Unfit);
+    };
+    Ok(OptionalTexts {
+        text: Option::<String>::of_value(alloc, text)?,
+        blob: Option::<Vec<u8>>::of_value(alloc, blob)?,
+        frames: Option::<StackFrames>::of_value(alloc, frames)?,
+        label: Option::<InternedString>::of_value(alloc, label)?,
+        stack: Option::<InternedStackFrames>::of_value(alloc, stack)?,
+        pairs: Option::<Vec<(String, String)>>::of_value(alloc, pairs)?,
+    })
+}
+
 impl<'a> HoldsValues<'a> for Wide {
     fn of_values(alloc: Global, time: u64, values: &'a [FieldValue]) -> Result<Wide, Unheld> {
-        let [
-            v0,
-            v1,
-            v2,
-            v3,
-            v4,
-            v5,
-            v6,
-            v7,
-            v8,
-            v9,
-            v10,
-            v11,
-            v12,
-            v13,
-            v14,
-            v15,
-            v16,
-            v17,
-            v18,
-            v19,
-        ] = values
-        else {
-            return Err(Unheld::Unfit);
-        };
-        Ok(Wide {
-            time,
-            v0: u64::of_value(alloc, v0)?,
-            v1: u64::of_value(alloc, v1)?,
-            v2: u64::of_value(alloc, v2)?,
-            v3: u64::of_value(alloc, v3)?,
-            v4: u64::of_value(alloc, v4)?,
-            v5: u64::of_value(alloc, v5)?,
-            v6: u64::of_value(alloc, v6)?,
-            v7: u64::of_value(alloc, v7)?,
-            v8: u64::of_value(alloc, v8)?,
-            v9: u64::of_value(alloc, v9)?,
-            v10: u64::of_value(alloc, v10)?,
-            v11: u64::of_value(alloc, v11)?,
-            v12: u64::of_value(alloc, v12)?,
-            v13: u64::of_value(alloc, v13)?,
-            v14: u64::of_value(alloc, v14)?,
-            v15: u64::of_value(alloc, v15)?,
-            v16: u64::of_value(alloc, v16)?,
-            v17: u64::of_value(alloc, v17)?,
-            v18: u64::of_value(alloc, v18)?,
-            v19: u64::of_value(alloc, v19)?,
-        })
+        let numbers = numbers_of(alloc, values)?;
+        wide_of(time, &numbers).ok_or(Unheld::Unfit)
     }
+}
+
+// The event of twenty numbers.
+fn wide_of(time: u64, numbers: &[u64]) -> Option<Wide>
+    ensures time { IfSome result (λ e. e.time ≡ time) }
+    ensures numbers { IfSome result (λ e. wide_numbers e ≡ numbers.now) }
+{
+    if numbers.len() != 20 {
+        return None;
+    }
+    Some(Wide {
+        time,
+        v0: numbers[0],
+        v1: numbers[1],
+        v2: numbers[2],
+        v3: numbers[3],
+        v4: numbers[4],
+        v5: numbers[5],
+        v6: numbers[6],
+        v7: numbers[7],
+        v8: numbers[8],
+        v9: numbers[9],
+        v10: numbers[10],
+        v11: numbers[11],
+        v12: numbers[12],
+        v13: numbers[13],
+        v14: numbers[14],
+        v15: numbers[15],
+        v16: numbers[16],
+        v17: numbers[17],
+        v18: numbers[18],
+        v19: numbers[19],
+    })
+}
+
+// The numbers that these values are.
+fn numbers_of(alloc: Global, values: &[FieldValue]) -> Result<Vec<u64>, Unheld>
+    ensures { IfOk result (λ numbers. map number numbers.items ≡ views values.now) }
+{
+    let mut numbers = Vec::new(alloc);
+    for value in values {
+        let number = u64::of_value(alloc, value)?;
+        numbers.push(number)?;
+    }
+    Ok(numbers)
 }

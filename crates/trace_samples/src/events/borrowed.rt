@@ -1,18 +1,25 @@
 //! An event type that borrows.
 
 ghost use Rattle.std.specs.Prelude.{◌≡◌, [], ◌∷◌, refl, IfOk};
-ghost use Rattle.std.specs.Cmp.Lexicographic.{pointwise};
 ghost use Rattle.trace_values.specs.Values.{bytes, text};
 ghost use Rattle.trace_values.specs.TraceFields.{value_of_option};
-ghost use Rattle.trace_wire.specs.Schemas.{same_entry, same_field};
+ghost use Rattle.trace_wire.specs.Schemas.{same_entry};
 ghost use Rattle.trace_samples.specs.EventEntries.{borrowed_entry};
 
-use crate::events::definitions::definitions;
+use crate::events::definitions::{are_fields, definitions};
 use std::alloc::{AllocError, Global};
 use trace_values::leb128::EncodeError;
 use trace_values::types::{BytesField, EventEncoder, FieldType, StrField, TraceField};
 use trace_wire::schema::{FieldDef, SchemaEntry};
-use trace_writer::event::{TraceEvent, is_field};
+use trace_writer::event::TraceEvent;
+
+// The fields of `Borrowed`.
+const BORROWED_FIELDS: [(&str, FieldType); 4] = [
+    ("path", FieldType::String),
+    ("body", FieldType::Bytes),
+    ("note", FieldType::OptionalString),
+    ("rest", FieldType::OptionalBytes),
+];
 
 /// Texts and bytes that are borrowed, of slot 0.
 #[derive(Drop)]
@@ -52,15 +59,7 @@ impl<'a> TraceEvent for Borrowed<'a> {
     fn field_defs(alloc: Global) -> Result<Vec<FieldDef>, AllocError>
         ensures { IfOk result (λ fields. fields.items ≡ borrowed_entry.fields) }
     {
-        definitions(
-            alloc,
-            &[
-                ("path", FieldType::String),
-                ("body", FieldType::Bytes),
-                ("note", FieldType::OptionalString),
-                ("rest", FieldType::OptionalBytes),
-            ],
-        )
+        definitions(alloc, &BORROWED_FIELDS)
     }
 
     fn schema_entry(alloc: Global) -> Result<SchemaEntry, AllocError>
@@ -74,7 +73,7 @@ impl<'a> TraceEvent for Borrowed<'a> {
         ensures { result ≡ same_entry other.now borrowed_entry }
     {
         other.name() == "Borrowed"
-            && (are_borrowed_fields(other.fields()) && other.annotations().is_empty())
+            && (are_fields(other.fields(), &BORROWED_FIELDS) && other.annotations().is_empty())
     }
 
     fn timestamp(&self) -> u64 {
@@ -86,18 +85,5 @@ impl<'a> TraceEvent for Borrowed<'a> {
         self.body.encode(enc)?;
         self.note.encode(enc)?;
         self.rest.encode(enc)
-    }
-}
-
-/// Whether these are the fields of `Borrowed`.
-fn are_borrowed_fields(fields: &[FieldDef]) -> bool
-    ensures { result ≡ pointwise same_field fields.now borrowed_entry.fields }
-{
-    match fields {
-        [path, body, note, rest] => is_field(path, "path", FieldType::String)
-            && (is_field(body, "body", FieldType::Bytes)
-                && (is_field(note, "note", FieldType::OptionalString)
-                    && is_field(rest, "rest", FieldType::OptionalBytes))),
-        _ => false,
     }
 }

@@ -1,18 +1,23 @@
 //! Event types with fields of each type.
 
 ghost use Rattle.std.specs.Prelude.{[], refl, string_bytes, ◌∷◌, ◌≡◌};
-ghost use Rattle.std.specs.Cmp.Lexicographic.{pointwise};
 ghost use Rattle.trace_values.specs.Values.{bytes, pooled_stack, stack, text, texts};
 ghost use Rattle.trace_values.specs.TraceFields.{string_pairs};
-ghost use Rattle.trace_wire.specs.Schemas.{same_field};
 ghost use Rattle.trace_samples.specs.EventEntries.{stacks_entry, texts_entry};
 
-use crate::events::definitions::definitions;
+use crate::events::definitions::{are_fields, definitions};
 use std::alloc::{AllocError, Global};
 use trace_values::leb128::EncodeError;
 use trace_values::types::{EventEncoder, FieldType, InternedStackFrames, StackFrames, TraceField};
 use trace_wire::schema::{FieldDef, SchemaEntry};
-use trace_writer::event::{TraceEvent, is_field};
+use trace_writer::event::TraceEvent;
+
+// The fields of `Texts`.
+const TEXTS_FIELDS: [(&str, FieldType); 3] = [
+    ("text", FieldType::String),
+    ("blob", FieldType::Bytes),
+    ("pairs", FieldType::StringMap),
+];
 
 /// A text, bytes and a string map, of slot 7.
 #[derive(Drop)]
@@ -44,14 +49,7 @@ impl TraceEvent for Texts {
     }
 
     fn field_defs(alloc: Global) -> Result<Vec<FieldDef>, AllocError> {
-        definitions(
-            alloc,
-            &[
-                ("text", FieldType::String),
-                ("blob", FieldType::Bytes),
-                ("pairs", FieldType::StringMap),
-            ],
-        )
+        definitions(alloc, &TEXTS_FIELDS)
     }
 
     fn schema_entry(alloc: Global) -> Result<SchemaEntry, AllocError> {
@@ -61,7 +59,7 @@ impl TraceEvent for Texts {
 
     fn is_entry(other: &SchemaEntry) -> bool {
         other.name() == "Texts"
-            && (are_texts_entry_fields(other.fields()) && other.annotations().is_empty())
+            && (are_fields(other.fields(), &TEXTS_FIELDS) && other.annotations().is_empty())
     }
 
     fn timestamp(&self) -> u64 {
@@ -75,17 +73,11 @@ impl TraceEvent for Texts {
     }
 }
 
-/// Whether these are the fields of `Texts`.
-fn are_texts_entry_fields(fields: &[FieldDef]) -> bool
-    ensures { result ≡ pointwise same_field fields.now texts_entry.fields }
-{
-    match fields {
-        [text, blob, pairs] => is_field(text, "text", FieldType::String)
-            && (is_field(blob, "blob", FieldType::Bytes)
-                && is_field(pairs, "pairs", FieldType::StringMap)),
-        _ => false,
-    }
-}
+// The fields of `Stacks`.
+const STACKS_FIELDS: [(&str, FieldType); 2] = [
+    ("frames", FieldType::StackFrames),
+    ("stack", FieldType::PooledStackFrames),
+];
 
 /// A stack, and the id of one, of slot 0.
 #[derive(Drop)]
@@ -116,13 +108,7 @@ impl TraceEvent for Stacks {
     }
 
     fn field_defs(alloc: Global) -> Result<Vec<FieldDef>, AllocError> {
-        definitions(
-            alloc,
-            &[
-                ("frames", FieldType::StackFrames),
-                ("stack", FieldType::PooledStackFrames),
-            ],
-        )
+        definitions(alloc, &STACKS_FIELDS)
     }
 
     fn schema_entry(alloc: Global) -> Result<SchemaEntry, AllocError> {
@@ -132,7 +118,7 @@ impl TraceEvent for Stacks {
 
     fn is_entry(other: &SchemaEntry) -> bool {
         other.name() == "Stacks"
-            && (are_stacks_fields(other.fields()) && other.annotations().is_empty())
+            && (are_fields(other.fields(), &STACKS_FIELDS) && other.annotations().is_empty())
     }
 
     fn timestamp(&self) -> u64 {
@@ -142,16 +128,5 @@ impl TraceEvent for Stacks {
     fn encode_fields(&self, enc: &mut EventEncoder<'_>) -> Result<(), EncodeError> {
         self.frames.encode(enc)?;
         self.stack.encode(enc)
-    }
-}
-
-/// Whether these are the fields of `Stacks`.
-fn are_stacks_fields(fields: &[FieldDef]) -> bool
-    ensures { result ≡ pointwise same_field fields.now stacks_entry.fields }
-{
-    match fields {
-        [frames, stack] => is_field(frames, "frames", FieldType::StackFrames)
-            && is_field(stack, "stack", FieldType::PooledStackFrames),
-        _ => false,
     }
 }

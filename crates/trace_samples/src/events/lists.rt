@@ -1,17 +1,21 @@
 //! Event types with lists and maps of values, and with many fields.
 
 ghost use Rattle.std.specs.Prelude.{◌≡◌, [], ◌∷◌, refl};
-ghost use Rattle.std.specs.Cmp.Lexicographic.{pointwise};
 ghost use Rattle.trace_values.specs.View.{view};
-ghost use Rattle.trace_wire.specs.Schemas.{same_field};
 ghost use Rattle.trace_samples.specs.EventEntries.{dynamic};
 
-use crate::events::definitions::definitions;
+use crate::events::definitions::{are_fields, definitions};
 use std::alloc::{AllocError, Global};
 use trace_values::leb128::EncodeError;
 use trace_values::types::{EventEncoder, FieldType, FieldValue};
 use trace_wire::schema::{FieldDef, SchemaEntry};
-use trace_writer::event::{TraceEvent, is_field};
+use trace_writer::event::TraceEvent;
+
+// The fields of `Dynamic`.
+const DYNAMIC_FIELDS: [(&str, FieldType); 2] = [
+    ("items", FieldType::DynamicList),
+    ("table", FieldType::DynamicMap),
+];
 
 /// A list and a map of values, of slot 1,000: it goes by its name.
 #[derive(Drop)]
@@ -42,13 +46,7 @@ impl TraceEvent for Dynamic {
     }
 
     fn field_defs(alloc: Global) -> Result<Vec<FieldDef>, AllocError> {
-        definitions(
-            alloc,
-            &[
-                ("items", FieldType::DynamicList),
-                ("table", FieldType::DynamicMap),
-            ],
-        )
+        definitions(alloc, &DYNAMIC_FIELDS)
     }
 
     fn schema_entry(alloc: Global) -> Result<SchemaEntry, AllocError> {
@@ -58,7 +56,7 @@ impl TraceEvent for Dynamic {
 
     fn is_entry(other: &SchemaEntry) -> bool {
         other.name() == "Dynamic"
-            && (are_dynamic_fields(other.fields()) && other.annotations().is_empty())
+            && (are_fields(other.fields(), &DYNAMIC_FIELDS) && other.annotations().is_empty())
     }
 
     fn timestamp(&self) -> u64 {
@@ -68,18 +66,5 @@ impl TraceEvent for Dynamic {
     fn encode_fields(&self, enc: &mut EventEncoder<'_>) -> Result<(), EncodeError> {
         enc.write_field_value(&self.items, FieldType::DynamicList)?;
         enc.write_field_value(&self.table, FieldType::DynamicMap)
-    }
-}
-
-/// Whether these are the fields of `Dynamic`.
-fn are_dynamic_fields(fields: &[FieldDef]) -> bool
-    ensures { result ≡ pointwise same_field fields.now dynamic.fields }
-{
-    match fields {
-        [items, table] => {
-            is_field(items, "items", FieldType::DynamicList)
-                && is_field(table, "table", FieldType::DynamicMap)
-        }
-        _ => false,
     }
 }

@@ -1,17 +1,15 @@
 //! Event types that go by their names.
 
 ghost use Rattle.std.specs.Prelude.{[], refl, ◌∷◌, ◌≡◌};
-ghost use Rattle.std.specs.Cmp.Lexicographic.{pointwise};
 ghost use Rattle.trace_values.specs.Values.{boolean, integer};
-ghost use Rattle.trace_wire.specs.Schemas.{same_field};
 ghost use Rattle.trace_samples.specs.EventEntries.{also, nameless, other};
 
-use crate::events::definitions::definitions;
+use crate::events::definitions::{are_fields, definitions};
 use std::alloc::{AllocError, Global};
 use trace_values::leb128::EncodeError;
 use trace_values::types::{EventEncoder, FieldType, TraceField};
 use trace_wire::schema::{FieldDef, SchemaEntry};
-use trace_writer::event::{TraceEvent, is_field};
+use trace_writer::event::TraceEvent;
 
 /// An event without fields, of slot 256: it goes by its name, and has the schema of `SlotClash`.
 #[derive(Drop)]
@@ -61,6 +59,9 @@ impl TraceEvent for ByName {
     }
 }
 
+// The fields of `AlsoByName`.
+const ALSO_FIELDS: [(&str, FieldType); 1] = [("amount", FieldType::I64)];
+
 /// An amount, of slot 256 as `ByName`.
 #[derive(Drop)]
 pub struct AlsoByName {
@@ -89,7 +90,7 @@ impl TraceEvent for AlsoByName {
     }
 
     fn field_defs(alloc: Global) -> Result<Vec<FieldDef>, AllocError> {
-        definitions(alloc, &[("amount", FieldType::I64)])
+        definitions(alloc, &ALSO_FIELDS)
     }
 
     fn schema_entry(alloc: Global) -> Result<SchemaEntry, AllocError> {
@@ -99,7 +100,7 @@ impl TraceEvent for AlsoByName {
 
     fn is_entry(other: &SchemaEntry) -> bool {
         other.name() == "Also"
-            && (are_also_fields(other.fields()) && other.annotations().is_empty())
+            && (are_fields(other.fields(), &ALSO_FIELDS) && other.annotations().is_empty())
     }
 
     fn timestamp(&self) -> u64 {
@@ -111,15 +112,8 @@ impl TraceEvent for AlsoByName {
     }
 }
 
-/// Whether these are the fields of `AlsoByName`.
-fn are_also_fields(fields: &[FieldDef]) -> bool
-    ensures { result ≡ pointwise same_field fields.now also.fields }
-{
-    match fields {
-        [amount] => is_field(amount, "amount", FieldType::I64),
-        _ => false,
-    }
-}
+// The fields of `Nameless`.
+const NAMELESS_FIELDS: [(&str, FieldType); 1] = [("", FieldType::Bool)];
 
 /// A flag, of a schema and a field without names.
 #[derive(Drop)]
@@ -149,7 +143,7 @@ impl TraceEvent for Nameless {
     }
 
     fn field_defs(alloc: Global) -> Result<Vec<FieldDef>, AllocError> {
-        definitions(alloc, &[("", FieldType::Bool)])
+        definitions(alloc, &NAMELESS_FIELDS)
     }
 
     fn schema_entry(alloc: Global) -> Result<SchemaEntry, AllocError> {
@@ -159,7 +153,7 @@ impl TraceEvent for Nameless {
 
     fn is_entry(other: &SchemaEntry) -> bool {
         other.name() == ""
-            && (are_nameless_fields(other.fields()) && other.annotations().is_empty())
+            && (are_fields(other.fields(), &NAMELESS_FIELDS) && other.annotations().is_empty())
     }
 
     fn timestamp(&self) -> u64 {
@@ -168,15 +162,5 @@ impl TraceEvent for Nameless {
 
     fn encode_fields(&self, enc: &mut EventEncoder<'_>) -> Result<(), EncodeError> {
         self.flag.encode(enc)
-    }
-}
-
-/// Whether these are the fields of `Nameless`.
-fn are_nameless_fields(fields: &[FieldDef]) -> bool
-    ensures { result ≡ pointwise same_field fields.now nameless.fields }
-{
-    match fields {
-        [flag] => is_field(flag, "", FieldType::Bool),
-        _ => false,
     }
 }

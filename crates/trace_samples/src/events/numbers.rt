@@ -1,17 +1,26 @@
 //! An event type with numbers of all widths.
 
 ghost use Rattle.std.specs.Prelude.{[], refl, ◌∷◌, ◌≡◌};
-ghost use Rattle.std.specs.Cmp.Lexicographic.{pointwise};
 ghost use Rattle.trace_values.specs.Values.{boolean, float, integer, number};
-ghost use Rattle.trace_wire.specs.Schemas.{same_field};
-ghost use Rattle.trace_samples.specs.EventEntries.{numbers_entry, numbers_fields, numbers_fields_3, numbers_fields_6};
+ghost use Rattle.trace_samples.specs.EventEntries.{numbers_entry};
 
-use crate::events::definitions::definitions;
+use crate::events::definitions::{are_fields, definitions};
 use std::alloc::{AllocError, Global};
 use trace_values::leb128::EncodeError;
 use trace_values::types::{EventEncoder, F64Bits, FieldType, TraceField};
 use trace_wire::schema::{FieldDef, SchemaEntry};
-use trace_writer::event::{TraceEvent, is_field};
+use trace_writer::event::TraceEvent;
+
+// The fields of `Numbers`.
+const NUMBERS_FIELDS: [(&str, FieldType); 7] = [
+    ("byte", FieldType::U8),
+    ("short", FieldType::U16),
+    ("word", FieldType::U32),
+    ("long", FieldType::Varint),
+    ("signed", FieldType::I64),
+    ("real", FieldType::F64),
+    ("flag", FieldType::Bool),
+];
 
 /// Numbers of all widths, of slot 1.
 #[derive(Drop)]
@@ -49,18 +58,7 @@ impl TraceEvent for Numbers {
     }
 
     fn field_defs(alloc: Global) -> Result<Vec<FieldDef>, AllocError> {
-        definitions(
-            alloc,
-            &[
-                ("byte", FieldType::U8),
-                ("short", FieldType::U16),
-                ("word", FieldType::U32),
-                ("long", FieldType::Varint),
-                ("signed", FieldType::I64),
-                ("real", FieldType::F64),
-                ("flag", FieldType::Bool),
-            ],
-        )
+        definitions(alloc, &NUMBERS_FIELDS)
     }
 
     fn schema_entry(alloc: Global) -> Result<SchemaEntry, AllocError> {
@@ -70,7 +68,7 @@ impl TraceEvent for Numbers {
 
     fn is_entry(other: &SchemaEntry) -> bool {
         other.name() == "Numbers"
-            && (are_numbers_fields(other.fields()) && other.annotations().is_empty())
+            && (are_fields(other.fields(), &NUMBERS_FIELDS) && other.annotations().is_empty())
     }
 
     fn timestamp(&self) -> u64 {
@@ -85,39 +83,5 @@ impl TraceEvent for Numbers {
         self.signed.encode(enc)?;
         self.real.encode(enc)?;
         self.flag.encode(enc)
-    }
-}
-
-/// Whether these are the fields of `Numbers`.
-fn are_numbers_fields(fields: &[FieldDef]) -> bool
-    ensures { result ≡ pointwise same_field fields.now numbers_fields }
-{
-    match fields {
-        [byte, short, word, rest @ ..] => is_field(byte, "byte", FieldType::U8)
-            && (is_field(short, "short", FieldType::U16)
-                && (is_field(word, "word", FieldType::U32) && are_numbers_fields_from_3(rest))),
-        _ => false,
-    }
-}
-
-/// Whether these are the fields of `Numbers` from the one of index 3 on.
-fn are_numbers_fields_from_3(fields: &[FieldDef]) -> bool
-    ensures { result ≡ pointwise same_field fields.now numbers_fields_3 }
-{
-    match fields {
-        [long, signed, real, rest @ ..] => is_field(long, "long", FieldType::Varint)
-            && (is_field(signed, "signed", FieldType::I64)
-                && (is_field(real, "real", FieldType::F64) && are_numbers_fields_from_6(rest))),
-        _ => false,
-    }
-}
-
-/// Whether these are the fields of `Numbers` from the one of index 6 on.
-fn are_numbers_fields_from_6(fields: &[FieldDef]) -> bool
-    ensures { result ≡ pointwise same_field fields.now numbers_fields_6 }
-{
-    match fields {
-        [flag] => is_field(flag, "flag", FieldType::Bool),
-        _ => false,
     }
 }

@@ -1,20 +1,35 @@
 //! An event type whose fields may all be absent.
 
 ghost use Rattle.std.specs.Prelude.{[], refl, string_bytes, ◌∷◌, ◌≡◌};
-ghost use Rattle.std.specs.Cmp.Lexicographic.{pointwise};
 ghost use Rattle.trace_values.specs.Values.{boolean, bytes, float, integer, number, pooled_stack, pooled_text, stack, text, texts};
 ghost use Rattle.trace_values.specs.TraceFields.{string_pairs, value_of_option};
-ghost use Rattle.trace_wire.specs.Schemas.{same_field};
-ghost use Rattle.trace_samples.specs.EventEntries.{options_entry, options_fields, options_fields_3, options_fields_6, options_fields_9, options_fields_12};
+ghost use Rattle.trace_samples.specs.EventEntries.{options_entry};
 
-use crate::events::definitions::definitions;
+use crate::events::definitions::{are_fields, definitions};
 use std::alloc::{AllocError, Global};
 use trace_values::leb128::EncodeError;
 use trace_values::types::{
     EventEncoder, F64Bits, FieldType, InternedStackFrames, InternedString, StackFrames, TraceField,
 };
 use trace_wire::schema::{FieldDef, SchemaEntry};
-use trace_writer::event::{TraceEvent, is_field};
+use trace_writer::event::TraceEvent;
+
+// The fields of `Options`.
+const OPTIONS_FIELDS: [(&str, FieldType); 13] = [
+    ("byte", FieldType::OptionalU8),
+    ("short", FieldType::OptionalU16),
+    ("word", FieldType::OptionalU32),
+    ("long", FieldType::OptionalVarint),
+    ("signed", FieldType::OptionalI64),
+    ("real", FieldType::OptionalF64),
+    ("flag", FieldType::OptionalBool),
+    ("text", FieldType::OptionalString),
+    ("blob", FieldType::OptionalBytes),
+    ("frames", FieldType::OptionalStackFrames),
+    ("label", FieldType::OptionalPooledString),
+    ("stack", FieldType::OptionalPooledStackFrames),
+    ("pairs", FieldType::OptionalStringMap),
+];
 
 /// A field that may be absent of each type, of slot 0.
 #[derive(Drop)]
@@ -60,24 +75,7 @@ impl TraceEvent for Options {
     }
 
     fn field_defs(alloc: Global) -> Result<Vec<FieldDef>, AllocError> {
-        definitions(
-            alloc,
-            &[
-                ("byte", FieldType::OptionalU8),
-                ("short", FieldType::OptionalU16),
-                ("word", FieldType::OptionalU32),
-                ("long", FieldType::OptionalVarint),
-                ("signed", FieldType::OptionalI64),
-                ("real", FieldType::OptionalF64),
-                ("flag", FieldType::OptionalBool),
-                ("text", FieldType::OptionalString),
-                ("blob", FieldType::OptionalBytes),
-                ("frames", FieldType::OptionalStackFrames),
-                ("label", FieldType::OptionalPooledString),
-                ("stack", FieldType::OptionalPooledStackFrames),
-                ("pairs", FieldType::OptionalStringMap),
-            ],
-        )
+        definitions(alloc, &OPTIONS_FIELDS)
     }
 
     fn schema_entry(alloc: Global) -> Result<SchemaEntry, AllocError> {
@@ -87,7 +85,7 @@ impl TraceEvent for Options {
 
     fn is_entry(other: &SchemaEntry) -> bool {
         other.name() == "Options"
-            && (are_options_fields(other.fields()) && other.annotations().is_empty())
+            && (are_fields(other.fields(), &OPTIONS_FIELDS) && other.annotations().is_empty())
     }
 
     fn timestamp(&self) -> u64 {
@@ -108,70 +106,5 @@ impl TraceEvent for Options {
         self.label.encode(enc)?;
         self.stack.encode(enc)?;
         self.pairs.encode(enc)
-    }
-}
-
-/// Whether these are the fields of `Options`.
-fn are_options_fields(fields: &[FieldDef]) -> bool
-    ensures { result ≡ pointwise same_field fields.now options_fields }
-{
-    match fields {
-        [byte, short, word, rest @ ..] => is_field(byte, "byte", FieldType::OptionalU8)
-            && (is_field(short, "short", FieldType::OptionalU16)
-                && (is_field(word, "word", FieldType::OptionalU32)
-                    && are_options_fields_from_3(rest))),
-        _ => false,
-    }
-}
-
-/// Whether these are the fields of `Options` from the one of index 3 on.
-fn are_options_fields_from_3(fields: &[FieldDef]) -> bool
-    ensures { result ≡ pointwise same_field fields.now options_fields_3 }
-{
-    match fields {
-        [long, signed, real, rest @ ..] => is_field(long, "long", FieldType::OptionalVarint)
-            && (is_field(signed, "signed", FieldType::OptionalI64)
-                && (is_field(real, "real", FieldType::OptionalF64)
-                    && are_options_fields_from_6(rest))),
-        _ => false,
-    }
-}
-
-/// Whether these are the fields of `Options` from the one of index 6 on.
-fn are_options_fields_from_6(fields: &[FieldDef]) -> bool
-    ensures { result ≡ pointwise same_field fields.now options_fields_6 }
-{
-    match fields {
-        [flag, text, blob, rest @ ..] => is_field(flag, "flag", FieldType::OptionalBool)
-            && (is_field(text, "text", FieldType::OptionalString)
-                && (is_field(blob, "blob", FieldType::OptionalBytes)
-                    && are_options_fields_from_9(rest))),
-        _ => false,
-    }
-}
-
-/// Whether these are the fields of `Options` from the one of index 9 on.
-fn are_options_fields_from_9(fields: &[FieldDef]) -> bool
-    ensures { result ≡ pointwise same_field fields.now options_fields_9 }
-{
-    match fields {
-        [frames, label, stack, rest @ ..] => is_field(
-            frames,
-            "frames",
-            FieldType::OptionalStackFrames,
-        ) && (is_field(label, "label", FieldType::OptionalPooledString)
-            && (is_field(stack, "stack", FieldType::OptionalPooledStackFrames)
-                && are_options_fields_from_12(rest))),
-        _ => false,
-    }
-}
-
-/// Whether these are the fields of `Options` from the one of index 12 on.
-fn are_options_fields_from_12(fields: &[FieldDef]) -> bool
-    ensures { result ≡ pointwise same_field fields.now options_fields_12 }
-{
-    match fields {
-        [pairs] => is_field(pairs, "pairs", FieldType::OptionalStringMap),
-        _ => false,
     }
 }

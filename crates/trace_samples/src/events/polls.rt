@@ -4,15 +4,22 @@ ghost use Rattle.std.specs.Prelude.{[], refl, ◌∷◌, ◌≡◌};
 ghost use Rattle.std.specs.Cmp.Lexicographic.{pointwise};
 ghost use Rattle.trace_values.specs.Values.{number, pooled_text};
 ghost use Rattle.trace_values.specs.TraceFields.{value_of_option};
-ghost use Rattle.trace_wire.specs.Schemas.{same_field, same_annotation};
-ghost use Rattle.trace_samples.specs.EventEntries.{poll, poll_again, poll_noted};
+ghost use Rattle.trace_wire.specs.Schemas.{same_annotation};
+ghost use Rattle.trace_samples.specs.EventEntries.{poll, poll_again, poll_annotated};
 
-use crate::events::definitions::definitions;
+use crate::events::definitions::{are_fields, definitions};
 use std::alloc::{AllocError, Global};
 use trace_values::leb128::EncodeError;
 use trace_values::types::{EventEncoder, FieldType, InternedString, TraceField};
 use trace_wire::schema::{FieldAnnotation, FieldDef, SchemaEntry};
-use trace_writer::event::{TraceEvent, is_annotation, is_field};
+use trace_writer::event::{TraceEvent, is_annotation};
+
+// The fields of `Poll` and of `PollAnnotated`.
+const POLL_FIELDS: [(&str, FieldType); 3] = [
+    ("worker", FieldType::Varint),
+    ("cpu", FieldType::OptionalU32),
+    ("label", FieldType::PooledString),
+];
 
 /// A poll of a task by a worker, on a core where it is known, of slot 0.
 #[derive(Drop)]
@@ -44,14 +51,7 @@ impl TraceEvent for Poll {
     }
 
     fn field_defs(alloc: Global) -> Result<Vec<FieldDef>, AllocError> {
-        definitions(
-            alloc,
-            &[
-                ("worker", FieldType::Varint),
-                ("cpu", FieldType::OptionalU32),
-                ("label", FieldType::PooledString),
-            ],
-        )
+        definitions(alloc, &POLL_FIELDS)
     }
 
     fn schema_entry(alloc: Global) -> Result<SchemaEntry, AllocError> {
@@ -61,7 +61,7 @@ impl TraceEvent for Poll {
 
     fn is_entry(other: &SchemaEntry) -> bool {
         other.name() == "Poll"
-            && (are_poll_fields(other.fields()) && other.annotations().is_empty())
+            && (are_fields(other.fields(), &POLL_FIELDS) && other.annotations().is_empty())
     }
 
     fn timestamp(&self) -> u64 {
@@ -75,17 +75,11 @@ impl TraceEvent for Poll {
     }
 }
 
-/// Whether these are the fields of `Poll`.
-fn are_poll_fields(fields: &[FieldDef]) -> bool
-    ensures { result ≡ pointwise same_field fields.now poll.fields }
-{
-    match fields {
-        [worker, cpu, label] => is_field(worker, "worker", FieldType::Varint)
-            && (is_field(cpu, "cpu", FieldType::OptionalU32)
-                && is_field(label, "label", FieldType::PooledString)),
-        _ => false,
-    }
-}
+// The fields of `PollAgain`.
+const POLL_AGAIN_FIELDS: [(&str, FieldType); 2] = [
+    ("worker", FieldType::Varint),
+    ("core", FieldType::U8),
+];
 
 /// The name of `Poll` with other fields.
 #[derive(Drop)]
@@ -116,10 +110,7 @@ impl TraceEvent for PollAgain {
     }
 
     fn field_defs(alloc: Global) -> Result<Vec<FieldDef>, AllocError> {
-        definitions(
-            alloc,
-            &[("worker", FieldType::Varint), ("core", FieldType::U8)],
-        )
+        definitions(alloc, &POLL_AGAIN_FIELDS)
     }
 
     fn schema_entry(alloc: Global) -> Result<SchemaEntry, AllocError> {
@@ -129,7 +120,7 @@ impl TraceEvent for PollAgain {
 
     fn is_entry(other: &SchemaEntry) -> bool {
         other.name() == "Poll"
-            && (are_poll_again_fields(other.fields()) && other.annotations().is_empty())
+            && (are_fields(other.fields(), &POLL_AGAIN_FIELDS) && other.annotations().is_empty())
     }
 
     fn timestamp(&self) -> u64 {
@@ -142,20 +133,9 @@ impl TraceEvent for PollAgain {
     }
 }
 
-/// Whether these are the fields of `PollAgain`.
-fn are_poll_again_fields(fields: &[FieldDef]) -> bool
-    ensures { result ≡ pointwise same_field fields.now poll_again.fields }
-{
-    match fields {
-        [worker, core] => is_field(worker, "worker", FieldType::Varint)
-            && is_field(core, "core", FieldType::U8),
-        _ => false,
-    }
-}
-
 /// The name and the fields of `Poll`, and an annotation.
 #[derive(Drop)]
-pub struct PollNoted {
+pub struct PollAnnotated {
     /// The time in nanoseconds.
     pub time: u64,
     pub worker: u64,
@@ -163,10 +143,10 @@ pub struct PollNoted {
     pub label: InternedString,
 }
 
-impl TraceEvent for PollNoted {
+impl TraceEvent for PollAnnotated {
     ghost slot = { 0 };
 
-    ghost entry = { poll_noted };
+    ghost entry = { poll_annotated };
 
     ghost time = { λ e. e.time };
 
@@ -183,26 +163,20 @@ impl TraceEvent for PollNoted {
     }
 
     fn field_defs(alloc: Global) -> Result<Vec<FieldDef>, AllocError> {
-        definitions(
-            alloc,
-            &[
-                ("worker", FieldType::Varint),
-                ("cpu", FieldType::OptionalU32),
-                ("label", FieldType::PooledString),
-            ],
-        )
+        definitions(alloc, &POLL_FIELDS)
     }
 
     fn schema_entry(alloc: Global) -> Result<SchemaEntry, AllocError> {
         let fields = Self::field_defs(alloc)?;
-        let mut notes = Vec::new(alloc);
-        notes.push(FieldAnnotation::new(alloc, 1, "unit", "index")?)?;
-        SchemaEntry::from_parts(alloc, "Poll", fields, notes)
+        let mut annotations = Vec::new(alloc);
+        annotations.push(FieldAnnotation::new(alloc, 1, "unit", "index")?)?;
+        SchemaEntry::from_parts(alloc, "Poll", fields, annotations)
     }
 
     fn is_entry(other: &SchemaEntry) -> bool {
         other.name() == "Poll"
-            && (are_poll_fields(other.fields()) && are_poll_noted_notes(other.annotations()))
+            && (are_fields(other.fields(), &POLL_FIELDS)
+                && are_poll_annotated_annotations(other.annotations()))
     }
 
     fn timestamp(&self) -> u64 {
@@ -216,11 +190,11 @@ impl TraceEvent for PollNoted {
     }
 }
 
-/// Whether these are the annotations of `PollNoted`.
-fn are_poll_noted_notes(notes: &[FieldAnnotation]) -> bool
-    ensures { result ≡ pointwise same_annotation notes.now poll_noted.annotations }
+/// Whether these are the annotations of `PollAnnotated`.
+fn are_poll_annotated_annotations(annotations: &[FieldAnnotation]) -> bool
+    ensures { result ≡ pointwise same_annotation annotations.now poll_annotated.annotations }
 {
-    match notes {
+    match annotations {
         [first] => is_annotation(first, 1, "unit", "index"),
         _ => false,
     }

@@ -3,15 +3,15 @@
 ghost use Rattle.std.specs.Prelude.{[], refl, ◌∷◌, ◌≡◌};
 ghost use Rattle.std.specs.Cmp.Lexicographic.{pointwise};
 ghost use Rattle.trace_values.specs.Values.{number};
-ghost use Rattle.trace_wire.specs.Schemas.{same_field, same_annotation};
+ghost use Rattle.trace_wire.specs.Schemas.{same_annotation};
 ghost use Rattle.trace_samples.specs.EventEntries.{annotated_entry, fast_slot, last_slot, other};
 
-use crate::events::definitions::definitions;
+use crate::events::definitions::{are_fields, definitions};
 use std::alloc::{AllocError, Global};
 use trace_values::leb128::EncodeError;
 use trace_values::types::{EventEncoder, FieldType, TraceField};
 use trace_wire::schema::{FieldAnnotation, FieldDef, SchemaEntry};
-use trace_writer::event::{TraceEvent, is_annotation, is_field};
+use trace_writer::event::{TraceEvent, is_annotation};
 
 /// An event without fields, of slot 5.
 #[derive(Drop)]
@@ -109,6 +109,9 @@ impl TraceEvent for SlotClash {
     }
 }
 
+// The fields of `LastSlot`.
+const LAST_SLOT_FIELDS: [(&str, FieldType); 1] = [("number", FieldType::U16)];
+
 /// A number, of the last slot that is a wire id.
 #[derive(Drop)]
 pub struct LastSlot {
@@ -137,7 +140,7 @@ impl TraceEvent for LastSlot {
     }
 
     fn field_defs(alloc: Global) -> Result<Vec<FieldDef>, AllocError> {
-        definitions(alloc, &[("number", FieldType::U16)])
+        definitions(alloc, &LAST_SLOT_FIELDS)
     }
 
     fn schema_entry(alloc: Global) -> Result<SchemaEntry, AllocError> {
@@ -147,7 +150,7 @@ impl TraceEvent for LastSlot {
 
     fn is_entry(other: &SchemaEntry) -> bool {
         other.name() == "LastSlot"
-            && (are_last_slot_fields(other.fields()) && other.annotations().is_empty())
+            && (are_fields(other.fields(), &LAST_SLOT_FIELDS) && other.annotations().is_empty())
     }
 
     fn timestamp(&self) -> u64 {
@@ -159,15 +162,8 @@ impl TraceEvent for LastSlot {
     }
 }
 
-/// Whether these are the fields of `LastSlot`.
-fn are_last_slot_fields(fields: &[FieldDef]) -> bool
-    ensures { result ≡ pointwise same_field fields.now last_slot.fields }
-{
-    match fields {
-        [number] => is_field(number, "number", FieldType::U16),
-        _ => false,
-    }
-}
+// The fields of `Annotated`.
+const ANNOTATED_FIELDS: [(&str, FieldType); 1] = [("load", FieldType::U8)];
 
 /// A load with two annotations, one of them of no field, of slot 9.
 #[derive(Drop)]
@@ -197,20 +193,21 @@ impl TraceEvent for Annotated {
     }
 
     fn field_defs(alloc: Global) -> Result<Vec<FieldDef>, AllocError> {
-        definitions(alloc, &[("load", FieldType::U8)])
+        definitions(alloc, &ANNOTATED_FIELDS)
     }
 
     fn schema_entry(alloc: Global) -> Result<SchemaEntry, AllocError> {
         let fields = Self::field_defs(alloc)?;
-        let mut notes = Vec::new(alloc);
-        notes.push(FieldAnnotation::new(alloc, 0, "unit", "ns")?)?;
-        notes.push(FieldAnnotation::new(alloc, 65535, "", "")?)?;
-        SchemaEntry::from_parts(alloc, "Annotated", fields, notes)
+        let mut annotations = Vec::new(alloc);
+        annotations.push(FieldAnnotation::new(alloc, 0, "unit", "ns")?)?;
+        annotations.push(FieldAnnotation::new(alloc, 65535, "", "")?)?;
+        SchemaEntry::from_parts(alloc, "Annotated", fields, annotations)
     }
 
     fn is_entry(other: &SchemaEntry) -> bool {
         other.name() == "Annotated"
-            && (are_annotated_fields(other.fields()) && are_annotated_notes(other.annotations()))
+            && (are_fields(other.fields(), &ANNOTATED_FIELDS)
+                && are_annotated_annotations(other.annotations()))
     }
 
     fn timestamp(&self) -> u64 {
@@ -222,21 +219,11 @@ impl TraceEvent for Annotated {
     }
 }
 
-/// Whether these are the fields of `Annotated`.
-fn are_annotated_fields(fields: &[FieldDef]) -> bool
-    ensures { result ≡ pointwise same_field fields.now annotated_entry.fields }
-{
-    match fields {
-        [load] => is_field(load, "load", FieldType::U8),
-        _ => false,
-    }
-}
-
 /// Whether these are the annotations of `Annotated`.
-fn are_annotated_notes(notes: &[FieldAnnotation]) -> bool
-    ensures { result ≡ pointwise same_annotation notes.now annotated_entry.annotations }
+fn are_annotated_annotations(annotations: &[FieldAnnotation]) -> bool
+    ensures { result ≡ pointwise same_annotation annotations.now annotated_entry.annotations }
 {
-    match notes {
+    match annotations {
         [first, second] => is_annotation(first, 0, "unit", "ns")
             && is_annotation(second, 65535, "", ""),
         _ => false,

@@ -4,14 +4,38 @@ ghost use Rattle.std.specs.Prelude.{[], refl, ◌∷◌, ◌≡◌};
 ghost use Rattle.std.specs.Cmp.Lexicographic.{pointwise};
 ghost use Rattle.trace_values.specs.Values.{number};
 ghost use Rattle.trace_wire.specs.Schemas.{same_field};
-ghost use Rattle.trace_samples.specs.EventEntries.{wide, wide_fields, wide_fields_3, wide_fields_6, wide_fields_9, wide_fields_12, wide_fields_15, wide_fields_18};
+ghost use Rattle.trace_samples.specs.EventEntries.{wide};
 
-use crate::events::definitions::definitions;
+use crate::events::definitions::{are_fields, definitions};
 use std::alloc::{AllocError, Global};
 use trace_values::leb128::EncodeError;
 use trace_values::types::{EventEncoder, FieldType, TraceField};
 use trace_wire::schema::{FieldDef, SchemaEntry};
-use trace_writer::event::{TraceEvent, is_field};
+use trace_writer::event::TraceEvent;
+
+// The fields of `Wide`.
+const WIDE_FIELDS: [(&str, FieldType); 20] = [
+    ("v0", FieldType::Varint),
+    ("v1", FieldType::Varint),
+    ("v2", FieldType::Varint),
+    ("v3", FieldType::Varint),
+    ("v4", FieldType::Varint),
+    ("v5", FieldType::Varint),
+    ("v6", FieldType::Varint),
+    ("v7", FieldType::Varint),
+    ("v8", FieldType::Varint),
+    ("v9", FieldType::Varint),
+    ("v10", FieldType::Varint),
+    ("v11", FieldType::Varint),
+    ("v12", FieldType::Varint),
+    ("v13", FieldType::Varint),
+    ("v14", FieldType::Varint),
+    ("v15", FieldType::Varint),
+    ("v16", FieldType::Varint),
+    ("v17", FieldType::Varint),
+    ("v18", FieldType::Varint),
+    ("v19", FieldType::Varint),
+];
 
 /// Twenty numbers, of slot 0.
 #[derive(Drop)]
@@ -66,31 +90,7 @@ impl TraceEvent for Wide {
     }
 
     fn field_defs(alloc: Global) -> Result<Vec<FieldDef>, AllocError> {
-        definitions(
-            alloc,
-            &[
-                ("v0", FieldType::Varint),
-                ("v1", FieldType::Varint),
-                ("v2", FieldType::Varint),
-                ("v3", FieldType::Varint),
-                ("v4", FieldType::Varint),
-                ("v5", FieldType::Varint),
-                ("v6", FieldType::Varint),
-                ("v7", FieldType::Varint),
-                ("v8", FieldType::Varint),
-                ("v9", FieldType::Varint),
-                ("v10", FieldType::Varint),
-                ("v11", FieldType::Varint),
-                ("v12", FieldType::Varint),
-                ("v13", FieldType::Varint),
-                ("v14", FieldType::Varint),
-                ("v15", FieldType::Varint),
-                ("v16", FieldType::Varint),
-                ("v17", FieldType::Varint),
-                ("v18", FieldType::Varint),
-                ("v19", FieldType::Varint),
-            ],
-        )
+        definitions(alloc, &WIDE_FIELDS)
     }
 
     fn schema_entry(alloc: Global) -> Result<SchemaEntry, AllocError> {
@@ -131,85 +131,9 @@ impl TraceEvent for Wide {
     }
 }
 
-/// Whether these are the fields of `Wide`.
+// Whether these are the fields of `Wide`.
 fn are_wide_fields(fields: &[FieldDef]) -> bool
-    ensures { result ≡ pointwise same_field fields.now wide_fields }
+    ensures { result ≡ pointwise same_field fields.now wide.fields }
 {
-    match fields {
-        [v0, v1, v2, rest @ ..] => is_field(v0, "v0", FieldType::Varint)
-            && (is_field(v1, "v1", FieldType::Varint)
-                && (is_field(v2, "v2", FieldType::Varint) && are_wide_fields_from_3(rest))),
-        _ => false,
-    }
-}
-
-/// Whether these are the fields of `Wide` from the one of index 3 on.
-fn are_wide_fields_from_3(fields: &[FieldDef]) -> bool
-    ensures { result ≡ pointwise same_field fields.now wide_fields_3 }
-{
-    match fields {
-        [v3, v4, v5, rest @ ..] => is_field(v3, "v3", FieldType::Varint)
-            && (is_field(v4, "v4", FieldType::Varint)
-                && (is_field(v5, "v5", FieldType::Varint) && are_wide_fields_from_6(rest))),
-        _ => false,
-    }
-}
-
-/// Whether these are the fields of `Wide` from the one of index 6 on.
-fn are_wide_fields_from_6(fields: &[FieldDef]) -> bool
-    ensures { result ≡ pointwise same_field fields.now wide_fields_6 }
-{
-    match fields {
-        [v6, v7, v8, rest @ ..] => is_field(v6, "v6", FieldType::Varint)
-            && (is_field(v7, "v7", FieldType::Varint)
-                && (is_field(v8, "v8", FieldType::Varint) && are_wide_fields_from_9(rest))),
-        _ => false,
-    }
-}
-
-/// Whether these are the fields of `Wide` from the one of index 9 on.
-fn are_wide_fields_from_9(fields: &[FieldDef]) -> bool
-    ensures { result ≡ pointwise same_field fields.now wide_fields_9 }
-{
-    match fields {
-        [v9, v10, v11, rest @ ..] => is_field(v9, "v9", FieldType::Varint)
-            && (is_field(v10, "v10", FieldType::Varint)
-                && (is_field(v11, "v11", FieldType::Varint) && are_wide_fields_from_12(rest))),
-        _ => false,
-    }
-}
-
-/// Whether these are the fields of `Wide` from the one of index 12 on.
-fn are_wide_fields_from_12(fields: &[FieldDef]) -> bool
-    ensures { result ≡ pointwise same_field fields.now wide_fields_12 }
-{
-    match fields {
-        [v12, v13, v14, rest @ ..] => is_field(v12, "v12", FieldType::Varint)
-            && (is_field(v13, "v13", FieldType::Varint)
-                && (is_field(v14, "v14", FieldType::Varint) && are_wide_fields_from_15(rest))),
-        _ => false,
-    }
-}
-
-/// Whether these are the fields of `Wide` from the one of index 15 on.
-fn are_wide_fields_from_15(fields: &[FieldDef]) -> bool
-    ensures { result ≡ pointwise same_field fields.now wide_fields_15 }
-{
-    match fields {
-        [v15, v16, v17, rest @ ..] => is_field(v15, "v15", FieldType::Varint)
-            && (is_field(v16, "v16", FieldType::Varint)
-                && (is_field(v17, "v17", FieldType::Varint) && are_wide_fields_from_18(rest))),
-        _ => false,
-    }
-}
-
-/// Whether these are the fields of `Wide` from the one of index 18 on.
-fn are_wide_fields_from_18(fields: &[FieldDef]) -> bool
-    ensures { result ≡ pointwise same_field fields.now wide_fields_18 }
-{
-    match fields {
-        [v18, v19] => is_field(v18, "v18", FieldType::Varint)
-            && is_field(v19, "v19", FieldType::Varint),
-        _ => false,
-    }
+    are_fields(fields, &WIDE_FIELDS)
 }

@@ -1,5 +1,6 @@
 use Rattle.std.proofs.Common.{rules, lit<}
-use Rattle.trace_lines.proofs.Joined.{in_two, in_three, value_text_StackFrames, value_text_PooledStackFrames, value_text_StringMap, value_text_List, value_text_Map}
+use Rattle.trace_lines.proofs.AppendedParts.{in_two, in_three}
+use Rattle.trace_lines.proofs.ValueTexts.{value_text_StackFrames, value_text_PooledStackFrames, value_text_StringMap, value_text_List, value_text_Map}
 use Rattle.trace_lines.proofs.value.+value.Goals as goal
 
 pub push_value-returns-in_ok-push_str-in-StackFrames :
