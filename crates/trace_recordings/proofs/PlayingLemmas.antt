@@ -14,13 +14,13 @@ use Rattle.dial9_trace_format.specs.declared.failure.Failure.{Failure}
 use Rattle.dial9_trace_format.specs.Decoding.{DecoderState, DecodesAll}
 use Rattle.dial9_trace_format.specs.Decodings.{IsOpened}
 use Rattle.trace_writer.specs.Calls.{Action, fresh_state, header}
-use Rattle.trace_writer.specs.Runs.{Plays}
+use Rattle.trace_writer.specs.CallLists.{Plays}
 use Rattle.trace_writer.specs.Headline.{FreshHeadline}
 use Rattle.trace_recordings.specs.declared.script.definitions.Definition.{Definition}
-use Rattle.trace_recordings.specs.declared.script.call.Call.{Call}
-use Rattle.trace_recordings.specs.declared.script.call.Call.TheVariants.{Nothing, Define, Register, Event, DefineType, WriteTyped, InternString, InternStack, StringPool, StackPool, Reset, Resume, Raw, Bare}
+use Rattle.trace_recordings.specs.declared.script.call.ScriptCall.{ScriptCall}
+use Rattle.trace_recordings.specs.declared.script.call.ScriptCall.TheVariants.{Nothing, Define, Register, Event, DefineType, WriteTyped, InternString, InternStack, StringPool, StackPool, Reset, Resume, Raw, Bare}
 use Rattle.trace_recordings.specs.declared.player.LineReply.{LineReply}
-use Rattle.trace_recordings.specs.declared.player.LineReply.TheVariants.{Answered, Silent}
+use Rattle.trace_recordings.specs.declared.player.LineReply.TheVariants.{Replied, Silent}
 use Rattle.trace_recordings.specs.declared.player.PlayError.{PlayError}
 use Rattle.trace_recordings.specs.declared.typed.Sample.{Sample}
 use Rattle.trace_wire.specs.Schemas.{Entry}
@@ -30,7 +30,7 @@ no_action : (a : Action) → None ≡ Some a → ⊥
 no_action a e = cc
 
 -- where the encoder was asked, this is the turn of the call
-turns_asked : (p : Playing) (call : Call) (q : Playing) → IsAsked p call q → Turns p call q
+turns_asked : (p : Playing) (call : ScriptCall) (q : Playing) → IsAsked p call q → Turns p call q
 turns_asked p Nothing q h = absurd (no_action h.2.action h.2.asked)
 turns_asked p (Define handle definition) q h = absurd (no_action h.2.action h.2.asked)
 turns_asked p (Register handle) q h = h
@@ -47,13 +47,13 @@ turns_asked p (Raw bytes) q h = absurd (no_action h.2.action h.2.asked)
 turns_asked p Bare q h = absurd (no_action h.2.action h.2.asked)
 
 -- the encoder was asked, and then its reply replied, where that was done
-pub asked_turn : (r : Result (Unit {0}) PlayError) (p : Playing) (call : Call) (reply : Reply) (mid q : Playing) → Asks p call reply mid → OnOk r (q ≡ with_reply (Answered reply) mid) → OnOk r (Turns p call q)
+pub asked_turn : (r : Result (Unit {0}) PlayError) (p : Playing) (call : ScriptCall) (reply : Reply) (mid q : Playing) → Asks p call reply mid → OnOk r (q ≡ with_reply (Replied reply) mid) → OnOk r (Turns p call q)
 asked_turn (Ok u) p call reply mid q asks replied = turns_asked p call q (reply, mid, asks, replied)
 asked_turn (Err e) p call reply mid q asks replied = tt
 
 -- a new trace was begun, and then the reply replied, where that was done
-pub reset_turn : (r : Result (Unit {0}) PlayError) (p : Playing) (call : Call) (reply : LineReply) (mid q : Playing) → call ≡ Reset → Resets p reply mid → OnOk r (q ≡ with_reply reply mid) → OnOk r (Turns p call q)
-reset_turn (Ok u) p call reply mid q is resets replied = subst (λ (c : Call). Turns p c q) (sym is) (reply, mid, resets, replied)
+pub reset_turn : (r : Result (Unit {0}) PlayError) (p : Playing) (call : ScriptCall) (reply : LineReply) (mid q : Playing) → call ≡ Reset → Resets p reply mid → OnOk r (q ≡ with_reply reply mid) → OnOk r (Turns p call q)
+reset_turn (Ok u) p call reply mid q is resets replied = subst (λ (c : ScriptCall). Turns p c q) (sym is) (reply, mid, resets, replied)
 reset_turn (Err e) p call reply mid q is resets replied = tt
 
 -- what a decoder that has given all becomes, by whether it has failed
@@ -79,13 +79,13 @@ resumption_refused trace bytes r e same is answers =
     subst (AnswersResumption bytes) is here
 
 -- an encoder went on after the output, and then the reply replied, where that was done
-pub resume_turn : (r : Result (Unit {0}) PlayError) (p : Playing) (call : Call) (reply : LineReply) (mid q : Playing) → call ≡ Resume → Resumes p reply mid → OnOk r (q ≡ with_reply reply mid) → OnOk r (Turns p call q)
-resume_turn (Ok u) p call reply mid q is resumes replied = subst (λ (c : Call). Turns p c q) (sym is) (reply, mid, resumes, replied)
+pub resume_turn : (r : Result (Unit {0}) PlayError) (p : Playing) (call : ScriptCall) (reply : LineReply) (mid q : Playing) → call ≡ Resume → Resumes p reply mid → OnOk r (q ≡ with_reply reply mid) → OnOk r (Turns p call q)
+resume_turn (Ok u) p call reply mid q is resumes replied = subst (λ (c : ScriptCall). Turns p c q) (sym is) (reply, mid, resumes, replied)
 resume_turn (Err e) p call reply mid q is resumes replied = tt
 
 -- a type was kept, and then that replied
-pub type_turn : (r : Result (Unit {0}) PlayError) (p : Playing) (call : Call) (handle slot : ℕ) (definition : Definition) (mid q : Playing) → call ≡ DefineType handle slot definition → DefinesType handle slot definition p mid → OnOk r (q ≡ with_reply Silent mid) → OnOk r (Turns p call q)
-type_turn (Ok u) p call handle slot definition mid q is defines replied = subst (λ (c : Call). Turns p c q) (sym is) (mid, defines, replied)
+pub type_turn : (r : Result (Unit {0}) PlayError) (p : Playing) (call : ScriptCall) (handle slot : ℕ) (definition : Definition) (mid q : Playing) → call ≡ DefineType handle slot definition → DefinesType handle slot definition p mid → OnOk r (q ≡ with_reply Silent mid) → OnOk r (Turns p call q)
+type_turn (Ok u) p call handle slot definition mid q is defines replied = subst (λ (c : ScriptCall). Turns p c q) (sym is) (mid, defines, replied)
 type_turn (Err e) p call handle slot definition mid q is defines replied = tt
 
 -- nothing was done yet
@@ -94,7 +94,7 @@ pub started : (state : WriterState) (schemas : List (ℕ × Entry)) (types : Lis
 started state schemas types bytes replies s d t b r = rw (s, d, t, b, r)
 
 -- one more call
-pub TurnsEach-append : (p q r : Playing) (calls : List Call) (call : Call) → TurnsEach p calls q → Turns q call r → TurnsEach p (calls ++ call ∷ []) r
+pub TurnsEach-append : (p q r : Playing) (calls : List ScriptCall) (call : ScriptCall) → TurnsEach p calls q → Turns q call r → TurnsEach p (calls ++ call ∷ []) r
 TurnsEach-append p q r [] call each turn = (r, subst (λ (x : Playing). Turns x call r) each turn, refl)
 TurnsEach-append p q r (c ∷ calls) call each turn = (each.0, each.1, TurnsEach-append each.0 q r calls call each.2 turn)
 
@@ -117,7 +117,7 @@ quiet p q r state bytes later = record {
 }
 
 -- before it, the encoder is asked
-asked : (p : Playing) (call : Call) (q r : Playing) → IsAsked p call q → Written q r → Written p r
+asked : (p : Playing) (call : ScriptCall) (q r : Playing) → IsAsked p call q → Written q r → Written p r
 asked p call q r h after =
     let later : Written h.1 r = quiet h.1 q r (ap (λ (x : Playing). x.state) h.3) (ap (λ (x : Playing). x.bytes) h.3) after in
     let output : h.1.bytes ≡ p.bytes ++ h.2.sent = ap (λ (x : Playing). x.bytes) h.2.output in
@@ -133,7 +133,7 @@ typed : (p mid q : Playing) (handle slot : ℕ) (definition : Definition) (defin
 typed p mid q handle slot definition defines replied = replied ∙ ap (with_reply Silent) defines.2
 
 -- before it, a turn
-turn : (p : Playing) (call : Call) (q r : Playing) → IsOfEncoder call → Turns p call q → Written q r → Written p r
+turn : (p : Playing) (call : ScriptCall) (q r : Playing) → IsOfEncoder call → Turns p call q → Written q r → Written p r
 turn p Nothing q r plain h later = quiet p q r (ap (λ (x : Playing). x.state) h) (ap (λ (x : Playing). x.bytes) h) later
 turn p (Define handle definition) q r plain h later = quiet p q r (ap (λ (x : Playing). x.state) h) (ap (λ (x : Playing). x.bytes) h) later
 turn p (Register handle) q r plain h later = asked p (Register handle) q r h later
@@ -150,7 +150,7 @@ turn p (Raw bytes) q r plain h later = absurd plain
 turn p Bare q r plain h later = absurd plain
 
 -- all turns
-turns : (p : Playing) (calls : List Call) (q : Playing) → AllByRecursion IsOfEncoder calls → TurnsEach p calls q → Written p q
+turns : (p : Playing) (calls : List ScriptCall) (q : Playing) → AllByRecursion IsOfEncoder calls → TurnsEach p calls q → Written p q
 turns p [] q plain h = record {
   actions = [];
   replies = [];
@@ -161,7 +161,7 @@ turns p [] q plain h = record {
 turns p (call ∷ calls) q plain h = turn p call h.0 q plain.0 h.1 (turns h.0 calls q plain.1 h.2)
 
 -- from the start
-pub written_by : FreshHeadline → (calls : List Call) (last : Playing) → TurnsEach start calls last → AllByRecursion IsOfEncoder calls → IsWritten last
+pub written_by : FreshHeadline → (calls : List ScriptCall) (last : Playing) → TurnsEach start calls last → AllByRecursion IsOfEncoder calls → IsWritten last
 written_by headline calls last each plain =
     let w = turns start calls last plain each in
     record {

@@ -7,49 +7,49 @@ use Rattle.trace_recordings.specs.declared.player.PlayError.TheVariants as plays
 use Rattle.std.specs.declared.alloc.Global.{Global}
 use Rattle.trace_values.specs.declared.types.field_value.FieldValue.{FieldValue}
 use Rattle.trace_recordings.specs.declared.script.definitions.Definition.{Definition}
-use Rattle.trace_recordings.specs.declared.script.call.Call.{Call}
-use Rattle.trace_recordings.specs.declared.script.call.Call.TheVariants.{DefineType, WriteTyped, Resume}
+use Rattle.trace_recordings.specs.declared.script.call.ScriptCall.{ScriptCall}
+use Rattle.trace_recordings.specs.declared.script.call.ScriptCall.TheVariants.{DefineType, WriteTyped, Resume}
 use Rattle.trace_recordings.specs.Playing.{Defined, Playing, TurnsEach, start}
 use Rattle.trace_recordings.specs.Refusals.{FirstMissing, IsHad, IsOfPlayer, IsUnheld, LacksHeader, LacksType, LeavesOut, MissesAt, NamesNone, RefusesScript, RefusesCall, RefusesUnder, ResumesHeadless, StopsAtLine, WritesTyped, misses}
 use Rattle.trace_recordings.specs.Scripts.{IsScript, word_of}
 use Rattle.trace_recordings.specs.Tallies.{counted_up}
 
 -- one more that the library has
-had_last : (calls : List Call) (call : Call) → AllByRecursion IsHad calls → misses call ≡ false → AllByRecursion IsHad (calls ++ call ∷ [])
+had_last : (calls : List ScriptCall) (call : ScriptCall) → AllByRecursion IsHad calls → misses call ≡ false → AllByRecursion IsHad (calls ++ call ∷ [])
 had_last [] call all had = (had, tt)
 had_last (c ∷ calls) call all had = (all.0, had_last calls call all.1 had)
 
-pub had_more : (calls : List Call) (i : ℕ) (call : Call) → i < length calls → call ≡ get_or calls i call → AllByRecursion IsHad (take i calls) → misses call ≡ false → AllByRecursion IsHad (take (i + 1) calls)
+pub had_more : (calls : List ScriptCall) (i : ℕ) (call : ScriptCall) → i < length calls → call ≡ get_or calls i call → AllByRecursion IsHad (take i calls) → misses call ≡ false → AllByRecursion IsHad (take (i + 1) calls)
 had_more calls i call inside is all had = rw (take_more calls i call inside, ← is) (had_last (take i calls) call all had)
 
 -- each of those that the library has
-had_at : (calls : List Call) (i : ℕ) (call : Call) → i < length calls → call ≡ get_or calls i call → AllByRecursion IsHad calls → misses call ≡ false
+had_at : (calls : List ScriptCall) (i : ℕ) (call : ScriptCall) → i < length calls → call ≡ get_or calls i call → AllByRecursion IsHad calls → misses call ≡ false
 had_at [] i call inside is all = absurd (omega (arith, inside))
 had_at (c ∷ calls) zero call inside is all = ap misses is ∙ all.0
 had_at (c ∷ calls) (suc i) call inside is all = had_at calls i call (omega (arith, inside)) is all.1
 
 -- a call, with those before and after it
-parts_at : (calls : List Call) (i : ℕ) (call : Call) → i < length calls → call ≡ get_or calls i call → (after : List Call) × (calls ≡ take i calls ++ call ∷ after)
+parts_at : (calls : List ScriptCall) (i : ℕ) (call : ScriptCall) → i < length calls → call ≡ get_or calls i call → (after : List ScriptCall) × (calls ≡ take i calls ++ call ∷ after)
 parts_at [] i call inside is = absurd (omega (arith, inside))
 parts_at (c ∷ calls) zero call inside is = (calls, ap (λ x. x ∷ calls) (sym is))
 parts_at (c ∷ calls) (suc i) call inside is =
     let later = parts_at calls i call (omega (arith, inside)) is in
     (later.0, ap (λ x. c ∷ x) later.1)
 
-front_length : (calls : List Call) (i : ℕ) → i < length calls → length (take i calls) ≡ i
+front_length : (calls : List ScriptCall) (i : ℕ) → i < length calls → length (take i calls) ≡ i
 front_length [] i inside = absurd (omega (arith, inside))
 front_length (c ∷ calls) zero inside = refl
 front_length (c ∷ calls) (suc i) inside = omega (arith, front_length calls i (omega (arith, inside)))
 
-counted : (calls : List Call) (i line : ℕ) → i < length calls → line ≡ counted_up i 1 → line ≡ counted_up (length (take i calls)) 1
+counted : (calls : List ScriptCall) (i line : ℕ) → i < length calls → line ≡ counted_up i 1 → line ≡ counted_up (length (take i calls)) 1
 counted calls i line inside n = n ∙ ap (λ (k : ℕ). counted_up k 1) (sym (front_length calls i inside))
 
-pub first_missing : (calls : List Call) (i line : ℕ) (call : Call) (word : List ℕ) → i < length calls → call ≡ get_or calls i call → AllByRecursion IsHad (take i calls) → misses call ≡ true → line ≡ counted_up i 1 → word ≡ word_of call → FirstMissing calls line word
+pub first_missing : (calls : List ScriptCall) (i line : ℕ) (call : ScriptCall) (word : List ℕ) → i < length calls → call ≡ get_or calls i call → AllByRecursion IsHad (take i calls) → misses call ≡ true → line ≡ counted_up i 1 → word ≡ word_of call → FirstMissing calls line word
 first_missing calls i line call word inside is had missing n w =
     let parts = parts_at calls i call inside is in
     record { before = take i calls; call = call; after = parts.0; parts = parts.1; had = had; missing = missing; counts = counted calls i line inside n; word_is = w }
 
-pub left_out_at : (calls : List Call) (i line : ℕ) (call : Call) (e : PlayError) → i < length calls → call ≡ get_or calls i call → AllByRecursion IsHad (take i calls) → line ≡ counted_up i 1 → MissesAt line call e → LeavesOut calls e
+pub left_out_at : (calls : List ScriptCall) (i line : ℕ) (call : ScriptCall) (e : PlayError) → i < length calls → call ≡ get_or calls i call → AllByRecursion IsHad (take i calls) → line ≡ counted_up i 1 → MissesAt line call e → LeavesOut calls e
 left_out_at calls i line call (plays.Script error) inside is had n r = absurd r
 left_out_at calls i line call (plays.LeftOut other word) inside is had n r = first_missing calls i other call word.now inside is had r.2 (r.0 ∙ n) r.1
 left_out_at calls i line call (plays.Unknown other handle) inside is had n r = absurd r
@@ -58,14 +58,14 @@ left_out_at calls i line call (plays.Headless other) inside is had n r = absurd 
 left_out_at calls i line call (plays.Encoder error) inside is had n r = absurd r
 left_out_at calls i line call plays.Memory inside is had n r = tt
 
-stops_at : (calls : List Call) (i line : ℕ) (call : Call) (reached : Playing) (why : Playing → Call → Type 0) → AllByRecursion IsHad calls → i < length calls → call ≡ get_or calls i call → TurnsEach start (take i calls) reached → line ≡ counted_up i 1
+stops_at : (calls : List ScriptCall) (i line : ℕ) (call : ScriptCall) (reached : Playing) (why : Playing → ScriptCall → Type 0) → AllByRecursion IsHad calls → i < length calls → call ≡ get_or calls i call → TurnsEach start (take i calls) reached → line ≡ counted_up i 1
     → why reached call → StopsAtLine calls line why
 stops_at calls i line call reached why had inside is turns n so =
     let parts = parts_at calls i call inside is in
     record { before = take i calls; call = call; after = parts.0; parts = parts.1; had = had; counts = counted calls i line inside n; reached = reached; turns = turns; is_so = so }
 
 -- a call was not made
-pub not_made : (text : List ℕ) (calls : List Call) (i line : ℕ) (call : Call) (reached : Playing) (e : PlayError) → IsScript calls text → AllByRecursion IsHad calls → i < length calls → call ≡ get_or calls i call → TurnsEach start (take i calls) reached → line ≡ counted_up i 1
+pub not_made : (text : List ℕ) (calls : List ScriptCall) (i line : ℕ) (call : ScriptCall) (reached : Playing) (e : PlayError) → IsScript calls text → AllByRecursion IsHad calls → i < length calls → call ≡ get_or calls i call → TurnsEach start (take i calls) reached → line ≡ counted_up i 1
     → RefusesCall reached line call e → RefusesScript text e
 not_made text calls i line call reached (plays.Script error) script had inside is turns n r = absurd r
 not_made text calls i line call reached (plays.LeftOut other word) script had inside is turns n r =
@@ -80,7 +80,7 @@ not_made text calls i line call reached (plays.Encoder error) script had inside 
 not_made text calls i line call reached plays.Memory script had inside is turns n r = tt
 
 -- the script was not begun
-pub not_begun : (text : List ℕ) (calls : List Call) (e : PlayError) → IsScript calls text → LeavesOut calls e → RefusesScript text e
+pub not_begun : (text : List ℕ) (calls : List ScriptCall) (e : PlayError) → IsScript calls text → LeavesOut calls e → RefusesScript text e
 not_begun text calls (plays.Script error) script r = absurd r
 not_begun text calls (plays.LeftOut line word) script r = (calls, script, r)
 not_begun text calls (plays.Unknown line handle) script r = absurd r
@@ -100,7 +100,7 @@ no_player text (plays.Encoder error) r = tt
 no_player text plays.Memory r = tt
 
 -- the player had no memory for a call
-pub no_memory : (defined : Defined) (line : ℕ) (call : Call) (e : PlayError) → IsOfPlayer e → RefusesUnder defined line call e
+pub no_memory : (defined : Defined) (line : ℕ) (call : ScriptCall) (e : PlayError) → IsOfPlayer e → RefusesUnder defined line call e
 no_memory defined line call (plays.Script error) r = absurd r
 no_memory defined line call (plays.LeftOut other word) r = absurd r
 no_memory defined line call (plays.Unknown other handle) r = absurd r
@@ -110,7 +110,7 @@ no_memory defined line call (plays.Encoder error) r = tt
 no_memory defined line call plays.Memory r = tt
 
 -- what the definitions alone tell
-pub under_definitions : (p : Playing) (line : ℕ) (call : Call) (e : PlayError) → RefusesUnder p.defined line call e → RefusesCall p line call e
+pub under_definitions : (p : Playing) (line : ℕ) (call : ScriptCall) (e : PlayError) → RefusesUnder p.defined line call e → RefusesCall p line call e
 under_definitions p line call (plays.Script error) r = r
 under_definitions p line call (plays.LeftOut other word) r = r
 under_definitions p line call (plays.Unknown other handle) r = r
@@ -120,7 +120,7 @@ under_definitions p line call (plays.Encoder error) r = r
 under_definitions p line call plays.Memory r = r
 
 -- the output has no header
-pub lacks_header : (p : Playing) (line : ℕ) (call : Call) (e : PlayError) → call ≡ Resume → LacksHeader line p.bytes e → RefusesCall p line call e
+pub lacks_header : (p : Playing) (line : ℕ) (call : ScriptCall) (e : PlayError) → call ≡ Resume → LacksHeader line p.bytes e → RefusesCall p line call e
 lacks_header p line call (plays.Script error) is r = absurd r
 lacks_header p line call (plays.LeftOut other word) is r = absurd r
 lacks_header p line call (plays.Unknown other name) is r = absurd r
@@ -129,12 +129,12 @@ lacks_header p line call (plays.Headless other) is r = (r.0, subst (ResumesHeadl
 lacks_header p line call (plays.Encoder error) is r = absurd r
 lacks_header p line call plays.Memory is r = tt
 
-pub no_memory_in : {A : Type 0} (r : Result A PlayError) (p : Playing) (line : ℕ) (call : Call) → IfErr r IsOfPlayer → IfErr r (RefusesCall p line call)
+pub no_memory_in : {A : Type 0} (r : Result A PlayError) (p : Playing) (line : ℕ) (call : ScriptCall) → IfErr r IsOfPlayer → IfErr r (RefusesCall p line call)
 no_memory_in (Ok u) p line call h = tt
 no_memory_in (Err e) p line call h = under_definitions p line call e (no_memory p.defined line call e h)
 
 -- no sample type is so defined
-pub lacks_type : (defined : Defined) (line : ℕ) (call : Call) (handle slot : ℕ) (definition : Definition) (e : PlayError) → call ≡ DefineType handle slot definition → LacksType line slot definition e → RefusesUnder defined line call e
+pub lacks_type : (defined : Defined) (line : ℕ) (call : ScriptCall) (handle slot : ℕ) (definition : Definition) (e : PlayError) → call ≡ DefineType handle slot definition → LacksType line slot definition e → RefusesUnder defined line call e
 lacks_type defined line call handle slot definition (plays.Script error) is r = absurd r
 lacks_type defined line call handle slot definition (plays.LeftOut other word) is r = ap misses is ∙ r
 lacks_type defined line call handle slot definition (plays.Unknown other name) is r = absurd r
@@ -144,7 +144,7 @@ lacks_type defined line call handle slot definition (plays.Encoder error) is r =
 lacks_type defined line call handle slot definition plays.Memory is r = tt
 
 -- the values of an event were not taken
-pub unheld : (defined : Defined) (line : ℕ) (call : Call) (handle time : ℕ) (values : Vec FieldValue Global) (e : PlayError) → call ≡ WriteTyped handle time values → IsUnheld line e → RefusesUnder defined line call e
+pub unheld : (defined : Defined) (line : ℕ) (call : ScriptCall) (handle time : ℕ) (values : Vec FieldValue Global) (e : PlayError) → call ≡ WriteTyped handle time values → IsUnheld line e → RefusesUnder defined line call e
 unheld defined line call handle time values (plays.Script error) is r = absurd r
 unheld defined line call handle time values (plays.LeftOut other word) is r = absurd r
 unheld defined line call handle time values (plays.Unknown other name) is r = absurd r

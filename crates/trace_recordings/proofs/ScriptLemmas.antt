@@ -7,9 +7,9 @@ use Rattle.std.proofs.lemmas.List.Elements.{All-from_get_or}
 use Rattle.std.proofs.lemmas.List.Splits.{slice_split_first, slice_split_none}
 use Rattle.std.proofs.lemmas.List.Sums.{position_or_len_is}
 use Rattle.trace_recordings.specs.declared.script.ScriptError.{ScriptError}
-use Rattle.trace_recordings.specs.declared.script.fault.Fault.TheVariants.{Memory}
-use Rattle.trace_recordings.specs.declared.script.call.Call.{Call}
-use Rattle.trace_recordings.specs.declared.script.call.Call.TheVariants.{Nothing, Define, Register, Event, DefineType, WriteTyped, InternString, InternStack, StringPool, StackPool, Reset, Resume, Raw, Bare}
+use Rattle.trace_recordings.specs.declared.script.line_error.LineError.TheVariants.{Memory}
+use Rattle.trace_recordings.specs.declared.script.call.ScriptCall.{ScriptCall}
+use Rattle.trace_recordings.specs.declared.script.call.ScriptCall.TheVariants.{Nothing, Define, Register, Event, DefineType, WriteTyped, InternString, InternStack, StringPool, StackPool, Reset, Resume, Raw, Bare}
 use Rattle.trace_recordings.specs.Scripts.{Says, SayEach, lines_of, IsScript, IsBrokenAt, IsFirstLine, GainsCall, SaysNoWord, is_silent}
 use Rattle.trace_recordings.specs.Tallies.{counted_up}
 
@@ -17,14 +17,14 @@ pub not_equal : (x y : ℕ) → (x ≡ y → ⊥) → (x == y) ≡ false
 not_equal x y h = grind (arith, nat_tests)
 
 -- one more line, and the call that it says
-SayEach-append : (lines : List (List ℕ)) (calls : List Call) (line : List ℕ) (call : Call) → SayEach lines calls → Says call line → SayEach (lines ++ line ∷ []) (calls ++ call ∷ [])
+SayEach-append : (lines : List (List ℕ)) (calls : List ScriptCall) (line : List ℕ) (call : ScriptCall) → SayEach lines calls → Says call line → SayEach (lines ++ line ∷ []) (calls ++ call ∷ [])
 SayEach-append [] [] line call each says = (says, tt)
 SayEach-append [] (c ∷ calls) line call each says = absurd each
 SayEach-append (l ∷ lines) [] line call each says = absurd each
 SayEach-append (l ∷ lines) (c ∷ calls) line call each says = (each.0, SayEach-append lines calls line call each.1 says)
 
 -- the lines of the text say the calls, up to those of the rest
-pub record SayFront (text : List ℕ) (calls : List Call) (rest : List ℕ) : Type 0 where
+pub record SayFront (text : List ℕ) (calls : List ScriptCall) (rest : List ℕ) : Type 0 where
   pub front : List (List ℕ)
   pub said : SayEach front calls
   pub parts : lines_of text ≡ front ++ lines_of rest
@@ -33,29 +33,29 @@ pub at_start : (text : List ℕ) → SayFront text [] text
 at_start text = record { front = []; said = tt; parts = refl }
 
 -- a further line, with more after it
-pub one_more : (text rest more line : List ℕ) (calls gained : List Call) → SayFront text calls rest → IsFirstLine rest line (Some more) → GainsCall calls gained line → SayFront text gained more
+pub one_more : (text rest more line : List ℕ) (calls gained : List ScriptCall) → SayFront text calls rest → IsFirstLine rest line (Some more) → GainsCall calls gained line → SayFront text gained more
 one_more text rest more line calls gained before first gains = record {
   front = before.front ++ line ∷ [];
-  said = let said : SayEach (before.front ++ line ∷ []) (calls ++ gains.call ∷ []) = SayEach-append before.front calls line gains.call before.said gains.says in subst (λ (c : List Call). SayEach (before.front ++ line ∷ []) c) (sym gains.gained) said;
+  said = let said : SayEach (before.front ++ line ∷ []) (calls ++ gains.call ∷ []) = SayEach-append before.front calls line gains.call before.said gains.says in subst (λ (c : List ScriptCall). SayEach (before.front ++ line ∷ []) c) (sym gains.gained) said;
   parts = before.parts ∙ ap (λ (t : List (List ℕ)). before.front ++ t) first ∙ sym (append_assoc before.front (line ∷ []) (lines_of more));
 }
 
 -- the last line
-pub the_last : (text rest line : List ℕ) (calls gained : List Call) → SayFront text calls rest → IsFirstLine rest line None → GainsCall calls gained line → IsScript gained text
+pub the_last : (text rest line : List ℕ) (calls gained : List ScriptCall) → SayFront text calls rest → IsFirstLine rest line None → GainsCall calls gained line → IsScript gained text
 unfolding IsScript
 the_last text rest line calls gained before first gains =
     let said : SayEach (before.front ++ line ∷ []) (calls ++ gains.call ∷ []) = SayEach-append before.front calls line gains.call before.said gains.says in
     let lines : lines_of text ≡ before.front ++ line ∷ [] = before.parts ∙ ap (λ (t : List (List ℕ)). before.front ++ t) first in
     rw (gains.gained, lines) said
 
-as_many : (lines : List (List ℕ)) (calls : List Call) → SayEach lines calls → length lines ≡ length calls
+as_many : (lines : List (List ℕ)) (calls : List ScriptCall) → SayEach lines calls → length lines ≡ length calls
 as_many [] [] each = refl
 as_many [] (c ∷ calls) each = absurd each
 as_many (l ∷ lines) [] each = absurd each
 as_many (l ∷ lines) (c ∷ calls) each = omega (arith, as_many lines calls each.1)
 
 -- the next line is broken
-pub broken_at : (text rest line : List ℕ) (more : Option (List ℕ)) (calls : List Call) (error : ScriptError) → SayFront text calls rest → IsFirstLine rest line more → error.line ≡ counted_up (length calls) 1 → (error.fault ≢ Memory → SaysNoWord line) → IsBrokenAt text error
+pub broken_at : (text rest line : List ℕ) (more : Option (List ℕ)) (calls : List ScriptCall) (error : ScriptError) → SayFront text calls rest → IsFirstLine rest line more → error.line ≡ counted_up (length calls) 1 → (error.fault ≢ Memory → SaysNoWord line) → IsBrokenAt text error
 broken_at text rest line None calls error front first n u = record {
   before = front.front;
   calls = calls;

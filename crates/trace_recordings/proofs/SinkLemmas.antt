@@ -9,8 +9,8 @@ use Rattle.trace_wire.specs.Frames.{Grammar, empty, Frame, Schema}
 use Rattle.trace_wire.specs.Runs.{Ending, Whole, Stopped, Conflict, no_pools}
 use Rattle.dial9_trace_format.specs.Decoding.{DecoderState, StartsWith, new_decoder, rest_of, Goes, Conflicts, FailsBy, error_at}
 use Rattle.dial9_trace_format.specs.ShownEvents.{ShownEvent}
-use Rattle.dial9_trace_format.specs.EventFaults.{FaultAt}
-use Rattle.dial9_trace_format.specs.Sinks.{Takes, visiting, events_of, TakesRun, HasFault, RunsSink, never_refused}
+use Rattle.dial9_trace_format.specs.EventCauses.{CauseAt}
+use Rattle.dial9_trace_format.specs.Sinks.{Takes, visiting, events_of, TakesRun, HasCause, RunsSink, never_refused}
 use Rattle.dial9_trace_format.specs.declared.failure.Failure.{Failure}
 use Rattle.dial9_trace_format.specs.declared.failure.Failure.TheVariants as failures
 use Rattle.dial9_trace_format.specs.declared.decoder.error.DecodeError.{DecodeError}
@@ -43,7 +43,7 @@ place_of old new frames g h =
 -- ---- the end
 
 -- no fault stands where nothing is left
-no_fault : (g : Grammar) (n : ℕ) (kind : DecodeErrorKind) → FaultAt g [] n kind → ⊥
+no_fault : (g : Grammar) (n : ℕ) (kind : DecodeErrorKind) → CauseAt g [] n kind → ⊥
 no_fault g n kinds.TruncatedEvent f = cc
 no_fault g n (kinds.UnknownTypeId id) f = cc
 no_fault g n kinds.TruncatedDelta f = cc
@@ -64,10 +64,10 @@ ends_whole input version new frames inside g done = record {
   place_is = place_of (new_decoder input version) new frames g inside;
 }
 
-ends_stopped : (input : List ℕ) (version : ℕ) (mid new : DecoderState) (e : DecodeError) (frames : List Frame) → 5 ≤ length input → AreBytes (drop 5 input) → Goes borrowed (new_decoder input version) mid frames → HasFault mid new e → EndsAt input frames Stopped new.position
+ends_stopped : (input : List ℕ) (version : ℕ) (mid new : DecoderState) (e : DecodeError) (frames : List Frame) → 5 ≤ length input → AreBytes (drop 5 input) → Goes borrowed (new_decoder input version) mid frames → HasCause mid new e → EndsAt input frames Stopped new.position
 ends_stopped input version mid new e frames inside fits g f =
     let left : AreBytes (rest_of mid) = AreBytes-right g.core.here (rest_of mid) (subst AreBytes g.core.parts fits) in
-    let some : rest_of mid ≢ [] = λ none. no_fault mid.grammar f.place e.kind (subst (λ (s : List ℕ). FaultAt mid.grammar s f.place e.kind) none f.fault) in
+    let some : rest_of mid ≢ [] = λ none. no_fault mid.grammar f.place e.kind (subst (λ (s : List ℕ). CauseAt mid.grammar s f.place e.kind) none f.fault) in
     let at : EndsAt input frames Stopped mid.position = record {
       rest = rest_of mid;
       last = mid.grammar;

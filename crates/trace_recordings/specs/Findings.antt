@@ -8,13 +8,13 @@ use Rattle.trace_lines.specs.declared.dump.Form.{Form}
 use Rattle.trace_lines.specs.declared.dump.Form.TheVariants.{Frames, Events}
 use Rattle.trace_lines.specs.declared.dump.Reader.TheVariants.{Borrowed}
 use Rattle.trace_recordings.specs.declared.findings.Findings.{Findings}
-use Rattle.trace_recordings.specs.declared.findings.PartOutcome.{PartOutcome}
-use Rattle.trace_recordings.specs.declared.findings.PartOutcome.TheVariants.{Absent, LeftOut, Compared}
+use Rattle.trace_recordings.specs.declared.findings.PartFinding.{PartFinding}
+use Rattle.trace_recordings.specs.declared.findings.PartFinding.TheVariants.{Absent, LeftOut, Compared}
 use Rattle.trace_recordings.specs.declared.player.PlayError.{PlayError}
 use Rattle.trace_recordings.specs.declared.recording.Calls.{Calls}
 use Rattle.trace_recordings.specs.declared.recording.Readings.{Readings}
 use Rattle.trace_recordings.specs.declared.recording.Recording.{Recording}
-use Rattle.trace_recordings.specs.declared.script.call.Call.{Call}
+use Rattle.trace_recordings.specs.declared.script.call.ScriptCall.{ScriptCall}
 use Rattle.trace_recordings.specs.Comparisons.{ended}
 use Rattle.trace_recordings.specs.Playing.{IsPlayed, IsOfScript}
 use Rattle.trace_recordings.specs.Refusals.{RefusesScript, FirstMissing}
@@ -22,7 +22,7 @@ use Rattle.trace_recordings.specs.Scripts.{IsScript}
 use Rattle.trace_recordings.specs.Sinks.{IsSinkText}
 
 -- the trace has a dump, and no difference is told exactly where the recorded lines are that dump
-abbrev pub ShowsDump : Form → List ℕ → List ℕ → PartOutcome → Type 0
+abbrev pub ShowsDump : Form → List ℕ → List ℕ → PartFinding → Type 0
 ShowsDump form trace lines Absent = ⊥
 ShowsDump form trace lines (LeftOut name) = ⊥
 ShowsDump form trace lines (Compared differences) = (status : ℕ) × (text : List ℕ) × IsDumpAs form trace status text × ((differences.items ≡ []) ↔ (ended lines ≡ text))
@@ -39,13 +39,13 @@ abbrev pub ShowsRefused : Calls → List (String Global) → Type 0
 ShowsRefused calls differences = (error : PlayError) × IsOfScript error × RefusesScript calls.script.now error × (differences ≢ [])
 
 -- a script was compared; or it is read whole and has a call that the library has not, of which the first has this name
-abbrev pub ShowsCalls : List ℕ → Calls → PartOutcome → Type 0
+abbrev pub ShowsCalls : List ℕ → Calls → PartFinding → Type 0
 ShowsCalls trace calls Absent = ⊥
-ShowsCalls trace calls (LeftOut name) = (script : List Call) × IsScript script calls.script.now × (line : ℕ) × FirstMissing script line name.now
+ShowsCalls trace calls (LeftOut name) = (script : List ScriptCall) × IsScript script calls.script.now × (line : ℕ) × FirstMissing script line name.now
 ShowsCalls trace calls (Compared differences) = ShowsPlayed trace calls differences.items ⊎ ShowsRefused calls differences.items
 
 -- the same of a recording, which may have no script
-abbrev pub ShowsScript : List ℕ → Option Calls → PartOutcome → Type 0
+abbrev pub ShowsScript : List ℕ → Option Calls → PartFinding → Type 0
 ShowsScript trace None outcome = outcome ≡ Absent
 ShowsScript trace (Some calls) outcome = ShowsCalls trace calls outcome
 
@@ -58,7 +58,7 @@ abbrev pub IsUnread : Recording → Type 0
 IsUnread r = WhereRead r (λ trace. ⊥)
 
 -- the same of the dump with resolved events, where its lines were recorded
-abbrev pub ShowsResolved : List ℕ → Option Readings → PartOutcome → Type 0
+abbrev pub ShowsResolved : List ℕ → Option Readings → PartFinding → Type 0
 ShowsResolved trace None outcome = outcome ≡ Absent
 ShowsResolved trace (Some readings) outcome = ShowsDump Events trace readings.resolved.now outcome
 
@@ -68,23 +68,23 @@ borrowed_lines None dump = dump
 borrowed_lines (Some lines) dump = lines.now
 
 -- the same of the dump of the borrowed reader
-abbrev pub ShowsBorrowed : List ℕ → List ℕ → Option Readings → PartOutcome → Type 0
+abbrev pub ShowsBorrowed : List ℕ → List ℕ → Option Readings → PartFinding → Type 0
 ShowsBorrowed trace dump None outcome = outcome ≡ Absent
 ShowsBorrowed trace dump (Some readings) outcome = ShowsDump (Frames Borrowed) trace (borrowed_lines readings.borrowed dump) outcome
 
 -- no difference is told exactly where the recorded lines are what a sink is given of the trace
-abbrev pub ShowsSinkLines : List ℕ → List ℕ → PartOutcome → Type 0
+abbrev pub ShowsSinkLines : List ℕ → List ℕ → PartFinding → Type 0
 ShowsSinkLines trace lines Absent = ⊥
 ShowsSinkLines trace lines (LeftOut name) = ⊥
 ShowsSinkLines trace lines (Compared differences) = (text : List ℕ) × IsSinkText trace text × ((differences.items ≡ []) ↔ (ended lines ≡ text))
 
 -- the same, where its lines were recorded
-abbrev pub ShowsSink : List ℕ → Option Readings → PartOutcome → Type 0
+abbrev pub ShowsSink : List ℕ → Option Readings → PartFinding → Type 0
 ShowsSink trace None outcome = outcome ≡ Absent
 ShowsSink trace (Some readings) outcome = ShowsSinkLines trace readings.sink.now outcome
 
 -- a difference is told
-abbrev pub TellsOne : PartOutcome → Type 0
+abbrev pub TellsOne : PartFinding → Type 0
 TellsOne Absent = ⊥
 TellsOne (LeftOut name) = ⊥
 TellsOne (Compared differences) = differences.items ≢ []

@@ -18,14 +18,14 @@ use Rattle.trace_writer.specs.State.{EncoderView, WriterState}
 use Rattle.std.specs.declared.alloc.Global.{Global}
 use Rattle.trace_values.specs.Sending.{telling}
 use Rattle.trace_writer.specs.Calls.{Action, Does, register, write_event, write_type, intern_string, write_string_pool, intern_stack, write_stack_pool, Answered, fresh_state, header}
-use Rattle.trace_writer.specs.Runs.{Plays}
+use Rattle.trace_writer.specs.CallLists.{Plays}
 use Rattle.trace_writer.specs.Headline.{AreFaultless, IsRead, frames_played}
 use Rattle.trace_writer.specs.Resume.{IsResumed}
 use Rattle.dial9_trace_format.specs.Decoding.{DecoderState, DecodesAll}
 use Rattle.dial9_trace_format.specs.Decodings.{IsOpened}
-use Rattle.trace_recordings.specs.declared.script.call.Call.{Call}
-use Rattle.trace_recordings.specs.declared.script.call.Call.TheVariants.{Nothing, Define, Register, Event, DefineType, WriteTyped, InternString, InternStack, StringPool, StackPool, Reset, Resume, Raw, Bare}
-use Rattle.trace_recordings.specs.declared.script.definitions.Annotation.{Annotation}
+use Rattle.trace_recordings.specs.declared.script.call.ScriptCall.{ScriptCall}
+use Rattle.trace_recordings.specs.declared.script.call.ScriptCall.TheVariants.{Nothing, Define, Register, Event, DefineType, WriteTyped, InternString, InternStack, StringPool, StackPool, Reset, Resume, Raw, Bare}
+use Rattle.trace_recordings.specs.declared.script.definitions.ScriptAnnotation.{ScriptAnnotation}
 use Rattle.trace_recordings.specs.declared.script.definitions.Definition.{Definition}
 use Rattle.trace_recordings.specs.declared.script.pools.PoolText.{PoolText}
 use Rattle.trace_recordings.specs.declared.script.pools.PoolStack.{PoolStack}
@@ -36,7 +36,7 @@ use Rattle.trace_recordings.specs.declared.player.Player.{Player}
 use Rattle.trace_recordings.specs.declared.typed.Sample.{Sample}
 use Rattle.trace_recordings.specs.declared.player.PlayError.{PlayError}
 use Rattle.trace_recordings.specs.declared.player.PlayError.TheVariants as plays
-use Rattle.trace_recordings.specs.declared.script.fault.Fault.TheVariants as faults
+use Rattle.trace_recordings.specs.declared.script.line_error.LineError.TheVariants as faults
 use Rattle.trace_recordings.specs.Samples.{entry_in, is_sample, slot_of}
 use Rattle.trace_recordings.specs.Scripts.{IsScript}
 
@@ -79,7 +79,7 @@ abbrev pub reply_text : LineReply → List ℕ
 reply_text line_replies.Silent = codes "-"
 reply_text line_replies.Reset = codes "reset"
 reply_text (line_replies.Resumed size) = codes "resume " ++ decimal size
-reply_text (line_replies.Answered reply) = answer_text reply
+reply_text (line_replies.Replied reply) = answer_text reply
 
 -- a reply, and how many bytes the encoder had written after it
 unfoldable pub reply_line : LineReply → ℕ → List ℕ
@@ -87,7 +87,7 @@ reply_line reply count = reply_text reply ++ codes " bytes=" ++ decimal count ++
 
 -- ---- what a call asks of an encoder
 
-abbrev pub annotation_of : Annotation → schemas.Annotation
+abbrev pub annotation_of : ScriptAnnotation → schemas.Annotation
 annotation_of a = record { index = a.index; key = string_bytes a.key; value = string_bytes a.value }
 
 -- the schema that a definition says
@@ -113,7 +113,7 @@ abbrev pub under : {A : Type 0} → List (ℕ × A) → ℕ → Option A
 under defined handle = lookup (is_at (nat_cmp handle)) defined
 
 -- what a call asks of an encoder, after these definitions
-abbrev pub action_asked : Defined → Call → Option Action
+abbrev pub action_asked : Defined → ScriptCall → Option Action
 action_asked defined (Register handle) = option_map (λ e. register e) (under defined.schemas handle)
 action_asked defined (Event handle time values) = option_map (λ e. write_event e time (views values.items)) (under defined.schemas handle)
 action_asked defined (WriteTyped handle time values) = option_map (λ s. write_type (slot_of s) (entry_in s) time (views values.items)) (under defined.types handle)
@@ -124,7 +124,7 @@ action_asked defined (StackPool entries) = Some (write_stack_pool (map pool_stac
 action_asked defined other = None
 
 -- the call asks something of an encoder
-abbrev pub asks : Call → Bool
+abbrev pub asks : ScriptCall → Bool
 asks Nothing = false
 asks (Define handle definition) = false
 asks (DefineType handle slot definition) = false
@@ -135,7 +135,7 @@ asks Bare = false
 asks call = true
 
 -- an encoder over a list of bytes gives this answer to what a call asks of it
-abbrev pub DoesCall : Defined → EncoderView (Vec ℕ Global) → EncoderView (Vec ℕ Global) → Call → Reply → Type 0
+abbrev pub DoesCall : Defined → EncoderView (Vec ℕ Global) → EncoderView (Vec ℕ Global) → ScriptCall → Reply → Type 0
 DoesCall defined old new call reply = (action : Action) × (action_asked defined call ≡ Some action) × Does (λ v. telling (Some v.items)) old action reply new
 
 -- ---- the turns of a script
@@ -171,7 +171,7 @@ abbrev pub DefinesType : ℕ → ℕ → Definition → Playing → Playing → 
 DefinesType handle slot definition p q = (sample : Sample) × (is_sample slot (defined_entry definition) sample ≡ true) × (q ≡ with_type handle sample p)
 
 -- the encoder gives this answer to what a call asks of it, and what it sends comes after the output
-pub record Asks (p : Playing) (call : Call) (reply : Reply) (q : Playing) : Type 0 where
+pub record Asks (p : Playing) (call : ScriptCall) (reply : Reply) (q : Playing) : Type 0 where
   pub action : Action
   pub asked : action_asked p.defined call ≡ Some action
   pub sent : List ℕ
@@ -179,13 +179,13 @@ pub record Asks (p : Playing) (call : Call) (reply : Reply) (q : Playing) : Type
   pub output : q ≡ record p { state = q.state; bytes = p.bytes ++ sent }
 
 -- the encoder is asked, and the line of its reply comes after the others
-abbrev pub IsAsked : Playing → Call → Playing → Type 0
-IsAsked p call q = (reply : Reply) × (mid : Playing) × Asks p call reply mid × (q ≡ with_reply (line_replies.Answered reply) mid)
+abbrev pub IsAsked : Playing → ScriptCall → Playing → Type 0
+IsAsked p call q = (reply : Reply) × (mid : Playing) × Asks p call reply mid × (q ≡ with_reply (line_replies.Replied reply) mid)
 
 -- a new trace begins after the output with its header; or its writer failed, and all is as before
 abbrev pub Resets : Playing → LineReply → Playing → Type 0
 Resets p line_replies.Reset q = q ≡ record p { state = fresh_state; bytes = p.bytes ++ header }
-Resets p (line_replies.Answered (Refused (errors.Writer kind))) q = q ≡ p
+Resets p (line_replies.Replied (Refused (errors.Writer kind))) q = q ≡ p
 Resets p reply q = ⊥
 
 -- ---- going on after the output
@@ -218,7 +218,7 @@ AnswersResumption trace (Err error) = RefusesResumption trace error
 -- the encoder goes on after the output, whose size is told; or that was refused, and all is as before
 abbrev pub Resumes : Playing → LineReply → Playing → Type 0
 Resumes p (line_replies.Resumed size) q = GoesOnAfter p.bytes q.state × (size ≡ length p.bytes) × (q ≡ record p { state = q.state })
-Resumes p (line_replies.Answered (Refused error)) q = RefusesResumption p.bytes error × (q ≡ p)
+Resumes p (line_replies.Replied (Refused error)) q = RefusesResumption p.bytes error × (q ≡ p)
 Resumes p reply q = ⊥
 
 -- a step that answers a reply, and then the line of that reply
@@ -226,7 +226,7 @@ abbrev pub IsReplied : (Playing → LineReply → Playing → Type 0) → Playin
 IsReplied step p q = (reply : LineReply) × (mid : Playing) × step p reply mid × (q ≡ with_reply reply mid)
 
 -- a call of a script leads from p to q
-abbrev pub Turns : Playing → Call → Playing → Type 0
+abbrev pub Turns : Playing → ScriptCall → Playing → Type 0
 Turns p Nothing q = q ≡ p
 Turns p (Define handle definition) q = q ≡ with_reply line_replies.Silent (with_schema handle definition p)
 Turns p (DefineType handle slot definition) q = (mid : Playing) × DefinesType handle slot definition p mid × (q ≡ with_reply line_replies.Silent mid)
@@ -237,12 +237,12 @@ Turns p Resume q = IsReplied Resumes p q
 Turns p call q = IsAsked p call q
 
 -- calls lead from p to q, one after another
-abbrev pub TurnsEach : Playing → List Call → Playing → Type 0
+abbrev pub TurnsEach : Playing → List ScriptCall → Playing → Type 0
 TurnsEach p [] q = q ≡ p
 TurnsEach p (call ∷ calls) q = (mid : Playing) × Turns p call mid × TurnsEach mid calls q
 
 -- the call puts nothing past the encoder, takes nothing away, and begins no trace
-abbrev pub IsOfEncoder : Call → Type 0
+abbrev pub IsOfEncoder : ScriptCall → Type 0
 IsOfEncoder Reset = ⊥
 IsOfEncoder Resume = ⊥
 IsOfEncoder (Raw bytes) = ⊥
@@ -261,7 +261,7 @@ pub record IsWritten (last : Playing) : Type 0 where
 
 -- the text is a script, whose calls on a new encoder make the bytes and the replies
 pub record IsPlayed (text bytes replies : List ℕ) : Type 0 where
-  pub calls : List Call
+  pub calls : List ScriptCall
   pub script : IsScript calls text
   pub last : Playing
   pub turns : TurnsEach start calls last

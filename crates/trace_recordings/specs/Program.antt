@@ -4,15 +4,15 @@ use Rattle.std.specs.declared.alloc.Global.{Global}
 use Rattle.trace_recordings.specs.declared.player.Played.{Played}
 use Rattle.trace_recordings.specs.declared.player.PlayError.{PlayError}
 use Rattle.trace_recordings.specs.declared.program.Answer.{Answer}
-use Rattle.trace_recordings.specs.declared.program.Task.{Task}
-use Rattle.trace_recordings.specs.declared.program.Task.TheVariants.{ReplaySets, PlayInput, Usage}
+use Rattle.trace_recordings.specs.declared.program.ReplayTask.{ReplayTask}
+use Rattle.trace_recordings.specs.declared.program.ReplayTask.TheVariants.{ReplaySets, PlayInput, Usage}
 use Rattle.trace_recordings.specs.Playing.{IsOfScript}
 
 -- no word asks for the sets, the one word `-` for a script from standard input, and all else for the usage
-abbrev pub AsksFor : List (String Global) → Task → Type 0
-AsksFor words ReplaySets = words ≡ []
-AsksFor words PlayInput = (word : String Global) × (words ≡ word ∷ []) × (string_bytes word ≡ codes "-")
-AsksFor words Usage = (words ≢ []) × ((word : String Global) → words ≡ word ∷ [] → string_bytes word ≢ codes "-")
+abbrev pub AsksToReplay : List (String Global) → ReplayTask → Type 0
+AsksToReplay words ReplaySets = words ≡ []
+AsksToReplay words PlayInput = (word : String Global) × (words ≡ word ∷ []) × (string_bytes word ≡ codes "-")
+AsksToReplay words Usage = (words ≢ []) × ((word : String Global) → words ≡ word ∷ [] → string_bytes word ≢ codes "-")
 
 -- once a set differs, the status says so
 abbrev pub status_with : ℕ → Bool → ℕ

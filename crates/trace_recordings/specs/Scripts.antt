@@ -1,17 +1,23 @@
 -- How the calls of a script stand in its lines.
-use Rattle.std.specs.Prelude.{◌≡◌, ◌≢◌, ◌⊎◌, ⊤, ℕ, ◌-◌, ◌==◌, Bool, true, List, [], ◌∷◌, ◌++◌, length, slice_get, Option, Some, None, Ok, codes, decimal, string_bytes}
+use Rattle.std.specs.Prelude.{◌≡◌, ◌≢◌, ◌⊎◌, ⊤, ℕ, ◌-◌, ◌<◌, ◌==◌, Bool, true, List, [], ◌∷◌, ◌++◌, length, slice_get, Option, Some, None, Result, Ok, IfOk, codes, decimal, string_bytes}
 use Rattle.std.specs.List.{flat_map, slice_split}
+use Rattle.std.specs.Borrow.{Bor}
 use Rattle.hex.specs.Hex.{decode_of}
 use Rattle.trace_values.specs.Values.{Value}
 use Rattle.trace_values.specs.View.{views}
 use Rattle.trace_lines.specs.Lines.{quoted, address_list, spaced_value}
-use Rattle.trace_recordings.specs.declared.script.call.Call.{Call}
-use Rattle.trace_recordings.specs.declared.script.call.Call.TheVariants.{Nothing, Define, Register, Event, DefineType, WriteTyped, InternString, InternStack, StringPool, StackPool, Reset, Resume, Raw, Bare}
+use Rattle.trace_recordings.specs.declared.script.call.ScriptCall.{ScriptCall}
+use Rattle.trace_recordings.specs.declared.script.call.ScriptCall.TheVariants.{Nothing, Define, Register, Event, DefineType, WriteTyped, InternString, InternStack, StringPool, StackPool, Reset, Resume, Raw, Bare}
 use Rattle.trace_recordings.specs.declared.script.ScriptError.{ScriptError}
-use Rattle.trace_recordings.specs.declared.script.fault.Fault.TheVariants.{Memory}
+use Rattle.trace_recordings.specs.declared.script.line_error.LineError.{LineError}
+use Rattle.trace_recordings.specs.declared.script.line_error.LineError.TheVariants.{Memory}
 use Rattle.trace_recordings.specs.Definitions.{definition_text}
 use Rattle.trace_recordings.specs.Tallies.{counted_up}
 use Rattle.trace_recordings.specs.Pools.{pool_text_text, pool_stack_text}
+
+-- what was found is followed by fewer bytes than the line has
+abbrev pub Shortens : {A : Type 0} → List ℕ → Result (A × Bor (List ℕ)) LineError → Type 0
+Shortens line result = IfOk result (λ x. length x.1.now < length line)
 
 -- an event: a handle, a time, and each value
 unfoldable pub event_text : ℕ → ℕ → List Value → List ℕ
@@ -33,7 +39,7 @@ is_silent [] = true
 is_silent (b ∷ bs) = b == 35
 
 -- the word by which a line of the call begins
-abbrev pub word_of : Call → List ℕ
+abbrev pub word_of : ScriptCall → List ℕ
 word_of Nothing = []
 word_of (Define handle definition) = codes "define"
 word_of (Register handle) = codes "register"
@@ -50,7 +56,7 @@ word_of (Raw bytes) = codes "raw"
 word_of Bare = codes "bare"
 
 -- the line says the call
-abbrev pub Says : Call → List ℕ → Type 0
+abbrev pub Says : ScriptCall → List ℕ → Type 0
 Says Nothing line = is_silent line ≡ true
 Says (Define handle definition) line = line ≡ codes "define " ++ decimal handle ++ codes " " ++ definition_text definition
 Says (Register handle) line = line ≡ codes "register " ++ decimal handle
@@ -67,7 +73,7 @@ Says (Raw bytes) line = (digits : List ℕ) × (line ≡ codes "raw " ++ digits)
 Says Bare line = line ≡ codes "bare"
 
 -- each line says the call of the same index
-abbrev pub SayEach : List (List ℕ) → List Call → Type 0
+abbrev pub SayEach : List (List ℕ) → List ScriptCall → Type 0
 SayEach [] [] = Unit {0}
 SayEach [] (call ∷ calls) = ⊥
 SayEach (line ∷ lines) [] = ⊥
@@ -78,11 +84,11 @@ abbrev pub lines_of : List ℕ → List (List ℕ)
 lines_of text = slice_split (λ b. b == 10) text
 
 -- the lines of the text say the calls
-unfoldable pub IsScript : List Call → List ℕ → Type 0
+unfoldable pub IsScript : List ScriptCall → List ℕ → Type 0
 IsScript calls text = SayEach (lines_of text) calls
 
 -- the call is one word, or nothing
-abbrev pub IsWord : Call → Type 0
+abbrev pub IsWord : ScriptCall → Type 0
 IsWord Nothing = ⊤
 IsWord Reset = ⊤
 IsWord Resume = ⊤
@@ -91,13 +97,13 @@ IsWord call = ⊥
 
 -- the line is not silent, and no call of one word
 abbrev pub SaysNoWord : List ℕ → Type 0
-SaysNoWord line = (call : Call) → IsWord call → Says call line → ⊥
+SaysNoWord line = (call : ScriptCall) → IsWord call → Says call line → ⊥
 
 -- The lines before that of the error say calls. Reading stopped at its line, which is not silent and no call of one word, where
 -- memory was not the fault. Lines count from 1.
 pub record IsBrokenAt (text : List ℕ) (error : ScriptError) : Type 0 where
   pub before : List (List ℕ)
-  pub calls : List Call
+  pub calls : List ScriptCall
   pub said : SayEach before calls
   pub broken : List ℕ
   pub after : List (List ℕ)
@@ -115,7 +121,7 @@ IsFirstLine text line None = lines_of text ≡ line ∷ []
 IsFirstLine text line (Some rest) = lines_of text ≡ line ∷ lines_of rest
 
 -- one more call, which the line says
-pub record GainsCall (old new : List Call) (line : List ℕ) : Type 0 where
-  pub call : Call
+pub record GainsCall (old new : List ScriptCall) (line : List ℕ) : Type 0 where
+  pub call : ScriptCall
   pub says : Says call line
   pub gained : new ≡ old ++ call ∷ []

@@ -2,8 +2,8 @@
 use Rattle.std.specs.Prelude.{ℕ, ◌+◌, ◌-◌, ◌^◌, Bool, List, [], ◌∷◌, length, map, min, nat_eq, if◌then◌else◌}
 use Rattle.std.specs.Cmp.Lexicographic.{pointwise}
 use Rattle.trace_recordings.specs.declared.findings.Findings.{Findings}
-use Rattle.trace_recordings.specs.declared.findings.PartOutcome.{PartOutcome}
-use Rattle.trace_recordings.specs.declared.findings.PartOutcome.TheVariants.{Absent, LeftOut, Compared}
+use Rattle.trace_recordings.specs.declared.findings.PartFinding.{PartFinding}
+use Rattle.trace_recordings.specs.declared.findings.PartFinding.TheVariants.{Absent, LeftOut, Compared}
 use Rattle.trace_recordings.specs.declared.tally.Parts.{Parts}
 use Rattle.trace_recordings.specs.declared.tally.LeftOut as left
 
@@ -39,7 +39,7 @@ abbrev pub seen_in : Parts → Seen
 seen_in p = record { compared = p.compared; differences = p.differences; left_out = counts_of p.left_out.items }
 
 -- with one more outcome
-abbrev pub with_outcome : PartOutcome → Seen → Seen
+abbrev pub with_outcome : PartFinding → Seen → Seen
 with_outcome Absent s = s
 with_outcome (LeftOut name) s = record s { left_out = one_more_of name.now s.left_out }
 with_outcome (Compared differences) s = record s { compared = counted_up s.compared 1; differences = counted_up s.differences (length differences.items) }

@@ -17,7 +17,7 @@ const SINK_NAME: &str = "what a sink is given";
 
 /// What became of a part of a recording.
 #[derive(Drop)]
-pub enum PartOutcome {
+pub enum PartFinding {
     /// The recording has no such part.
     Absent,
     /// The library has nothing for what is named.
@@ -29,14 +29,14 @@ pub enum PartOutcome {
 /// What a recording shows.
 #[derive(Drop)]
 pub struct Findings {
-    pub script: PartOutcome,
-    pub dump: PartOutcome,
+    pub script: PartFinding,
+    pub dump: PartFinding,
     /// The dump of the borrowed reader.
-    pub borrowed: PartOutcome,
+    pub borrowed: PartFinding,
     /// The dump with resolved events.
-    pub resolved: PartOutcome,
+    pub resolved: PartFinding,
     /// What a sink is given.
-    pub sink: PartOutcome,
+    pub sink: PartFinding,
 }
 
 /// Plays the script of a recording, dumps its trace, by each reader and with resolved events, and shows its events to a sink, and compares
@@ -69,11 +69,11 @@ fn unread_findings(alloc: Global, error: &FromHexError) -> Result<Findings, Allo
 {
     let difference = format!(in alloc; "the recorded bytes cannot be read: {error}")?;
     Ok(Findings {
-        script: PartOutcome::Absent,
-        dump: PartOutcome::Compared(vec![in alloc; difference]?),
-        borrowed: PartOutcome::Absent,
-        resolved: PartOutcome::Absent,
-        sink: PartOutcome::Absent,
+        script: PartFinding::Absent,
+        dump: PartFinding::Compared(vec![in alloc; difference]?),
+        borrowed: PartFinding::Absent,
+        resolved: PartFinding::Absent,
+        sink: PartFinding::Absent,
     })
 }
 
@@ -83,21 +83,21 @@ fn script_outcome(
     alloc: Global,
     calls: Option<Calls<'_>>,
     trace: &[u8],
-) -> Result<PartOutcome, AllocError>
+) -> Result<PartFinding, AllocError>
     ensures { IfOk result (ShowsScript trace.now calls.entry) }
 {
     let Some(calls) = calls else {
-        return Ok(PartOutcome::Absent);
+        return Ok(PartFinding::Absent);
     };
     match play(alloc, calls.script.as_bytes()) {
         Ok(played) => {
             let differences = played_differences(alloc, calls.replies, trace, &played)?;
-            Ok(PartOutcome::Compared(differences))
+            Ok(PartFinding::Compared(differences))
         }
-        Err(PlayError::LeftOut { call, .. }) => Ok(PartOutcome::LeftOut(call)),
+        Err(PlayError::LeftOut { call, .. }) => Ok(PartFinding::LeftOut(call)),
         Err(error) if error.is_of_script() => {
             let difference = format!(in alloc; "the script was not played: {error}")?;
-            Ok(PartOutcome::Compared(vec![in alloc; difference]?))
+            Ok(PartFinding::Compared(vec![in alloc; difference]?))
         }
         Err(_) => Err(AllocError),
     }
@@ -128,7 +128,7 @@ fn borrowed_outcome(
     lines: &str,
     readings: Option<Readings<'_>>,
     trace: &[u8],
-) -> Result<PartOutcome, AllocError>
+) -> Result<PartFinding, AllocError>
     ensures { IfOk result (ShowsBorrowed trace.now lines.now readings.entry) }
 {
     match readings {
@@ -136,7 +136,7 @@ fn borrowed_outcome(
             let lines = readings.borrowed.unwrap_or(lines);
             dump_outcome(alloc, lines, trace, Form::Frames(Reader::Borrowed))
         }
-        None => Ok(PartOutcome::Absent),
+        None => Ok(PartFinding::Absent),
     }
 }
 
@@ -145,12 +145,12 @@ fn resolved_outcome(
     alloc: Global,
     readings: Option<Readings<'_>>,
     trace: &[u8],
-) -> Result<PartOutcome, AllocError>
+) -> Result<PartFinding, AllocError>
     ensures { IfOk result (ShowsResolved trace.now readings.entry) }
 {
     match readings {
         Some(readings) => dump_outcome(alloc, readings.resolved, trace, Form::Events),
-        None => Ok(PartOutcome::Absent),
+        None => Ok(PartFinding::Absent),
     }
 }
 
@@ -159,15 +159,15 @@ fn sink_outcome(
     alloc: Global,
     readings: Option<Readings<'_>>,
     trace: &[u8],
-) -> Result<PartOutcome, AllocError>
+) -> Result<PartFinding, AllocError>
     ensures { IfOk result (ShowsSink trace.now readings.entry) }
 {
     let Some(readings) = readings else {
-        return Ok(PartOutcome::Absent);
+        return Ok(PartFinding::Absent);
     };
     let found = sink_lines(alloc, trace)?;
     let differences = text_differences(alloc, SINK_NAME, readings.sink, found.as_bytes())?;
-    Ok(PartOutcome::Compared(differences))
+    Ok(PartFinding::Compared(differences))
 }
 
 // Dumps a trace, and compares the lines, whose last one tells the status. A vector as a writer wants nothing but memory.
@@ -176,7 +176,7 @@ fn dump_outcome(
     lines: &str,
     trace: &[u8],
     form: Form,
-) -> Result<PartOutcome, AllocError>
+) -> Result<PartFinding, AllocError>
     ensures { IfOk result (ShowsDump form trace.now lines.now) }
 {
     let mut found = Vec::new(alloc);
@@ -184,7 +184,7 @@ fn dump_outcome(
         return Err(AllocError);
     }
     let differences = text_differences(alloc, dump_name(form), lines, &found)?;
-    Ok(PartOutcome::Compared(differences))
+    Ok(PartFinding::Compared(differences))
 }
 
 // By what name to speak of a dump.

@@ -9,7 +9,7 @@ ghost use Rattle.trace_recordings.specs.Playing.{AnswersResumption, DefinesType,
 ghost use Rattle.trace_recordings.specs.Samples.{is_sample, sample_index};
 ghost use Rattle.trace_recordings.specs.Refusals.{IsHad, IsOfPlayer, IsUnheld, LacksHeader, LacksType, LeavesOut, MissesAt, RefusesScript, RefusesCall, RefusesUnder, misses};
 
-use crate::script::{Call, Definition, Fault, PoolStack, PoolText, ScriptError, script_of};
+use crate::script::{ScriptCall, Definition, LineError, PoolStack, PoolText, ScriptError, script_of};
 use crate::typed::{Sample, Unheld, sample_in, write_sample};
 use dial9_trace_format::decoder::Decoder;
 use std::alloc::{AllocError, AllocFailed, Global};
@@ -56,7 +56,7 @@ impl PlayError {
         ensures { IsTrue result ↔ IsOfScript self.now }
     {
         match self {
-            PlayError::Script(error) => error.fault != Fault::Memory,
+            PlayError::Script(error) => error.fault != LineError::Memory,
             PlayError::LeftOut { .. }
             | PlayError::Unknown { .. }
             | PlayError::Unheld { .. }
@@ -108,7 +108,7 @@ pub fn play(alloc: Global, text: &[u8]) -> Result<Played, PlayError>
 }
 
 // Refuses a script with a type that is none of the samples, by the first of them.
-fn admit(alloc: Global, script: &[Call]) -> Result<(), PlayError>
+fn admit(alloc: Global, script: &[ScriptCall]) -> Result<(), PlayError>
     ensures admitted { OnOk result (AllByRecursion IsHad script.now) }
     ensures refused { IfErr result (LeavesOut script.now) }
 {
@@ -119,7 +119,7 @@ fn admit(alloc: Global, script: &[Call]) -> Result<(), PlayError>
 }
 
 // Refuses the call of a line that makes a type which is none of the samples.
-fn admit_call(alloc: Global, line: usize, call: &Call) -> Result<(), PlayError>
+fn admit_call(alloc: Global, line: usize, call: &ScriptCall) -> Result<(), PlayError>
     ensures admitted { OnOk result (misses call.now ≡ false) }
     ensures refused { IfErr result (MissesAt line call.now) }
 {
@@ -133,11 +133,11 @@ fn admit_call(alloc: Global, line: usize, call: &Call) -> Result<(), PlayError>
 }
 
 // Whether the call makes a type that is none of the samples.
-fn is_missing(alloc: Global, call: &Call) -> Result<bool, AllocError>
+fn is_missing(alloc: Global, call: &ScriptCall) -> Result<bool, AllocError>
     ensures { IfOk result (λ missing. missing ≡ misses call.now) }
 {
     match call {
-        Call::DefineType {
+        ScriptCall::DefineType {
             slot,
             definition,
             ..
@@ -165,7 +165,7 @@ enum LineReply {
     // The encoder was not called.
     Silent,
     // What a call of the encoder answered.
-    Answered(Reply),
+    Replied(Reply),
     // A new trace was begun.
     Reset,
     // The encoder was replaced by one that goes on after an output of this many bytes.
@@ -211,17 +211,17 @@ impl Player {
 
     // Makes the call of a line, and appends the line of its reply.
     #[tactic(auto, using(crate::proofs::RefusalLemmas::lacks_type, crate::proofs::RefusalLemmas::lacks_header, crate::proofs::RefusalLemmas::under_definitions))]
-    fn make(&mut self, line: usize, call: &Call) -> Result<(), PlayError>
+    fn make(&mut self, line: usize, call: &ScriptCall) -> Result<(), PlayError>
         ensures turns { OnOk result (Turns (playing_of self.old) call.now (playing_of self.new)) }
         ensures refused { IfErr result (RefusesCall (playing_of self.old) line call.now) }
     {
         match call {
-            Call::Nothing => Ok(()),
-            Call::Define { handle, definition } => {
+            ScriptCall::Nothing => Ok(()),
+            ScriptCall::Define { handle, definition } => {
                 self.define(*handle, definition)?;
                 self.add_reply(LineReply::Silent)
             }
-            Call::DefineType {
+            ScriptCall::DefineType {
                 handle,
                 slot,
                 definition,
@@ -229,25 +229,25 @@ impl Player {
                 self.define_type(line, *handle, *slot, definition)?;
                 self.add_reply(LineReply::Silent)
             }
-            Call::Raw { bytes } => {
+            ScriptCall::Raw { bytes } => {
                 self.played.bytes.extend_from_slice(bytes)?;
                 self.add_reply(LineReply::Silent)
             }
-            Call::Bare => {
+            ScriptCall::Bare => {
                 self.played.bytes.clear();
                 self.add_reply(LineReply::Silent)
             }
-            Call::Reset => {
+            ScriptCall::Reset => {
                 let reply = self.reset()?;
                 self.add_reply(reply)
             }
-            Call::Resume => {
+            ScriptCall::Resume => {
                 let reply = self.resume(line)?;
                 self.add_reply(reply)
             }
             other => {
                 let reply = self.ask(line, other)?;
-                self.add_reply(LineReply::Answered(reply))
+                self.add_reply(LineReply::Replied(reply))
             }
         }
     }
@@ -302,7 +302,7 @@ impl Player {
                     .extend_from_slice(self.encoder.as_inner())?;
                 Ok(LineReply::Reset)
             }
-            Err(error) => Ok(LineReply::Answered(Reply::Refused(error))),
+            Err(error) => Ok(LineReply::Replied(Reply::Refused(error))),
         }
     }
 
@@ -318,13 +318,13 @@ impl Player {
                     length: self.played.bytes.len(),
                 })
             }
-            Err(error) => Ok(LineReply::Answered(Reply::Refused(error))),
+            Err(error) => Ok(LineReply::Replied(Reply::Refused(error))),
         }
     }
 
     // Makes a call of the encoder, and appends what it sent to the output.
     #[tactic(auto, using(crate::proofs::RefusalLemmas::under_definitions))]
-    fn ask(&mut self, line: usize, call: &Call) -> Result<Reply, PlayError>
+    fn ask(&mut self, line: usize, call: &ScriptCall) -> Result<Reply, PlayError>
         requires { asks call.now ≡ true }
         ensures asked { IfOk result (λ reply. Asks (playing_of self.old) call.now reply (playing_of self.new)) }
         ensures refused { IfErr result (RefusesCall (playing_of self.old) line call.now) }
@@ -374,18 +374,18 @@ fn reply_of(
     encoder: &mut Encoder,
     handles: &Handles,
     line: usize,
-    call: &Call,
+    call: &ScriptCall,
 ) -> Result<Reply, PlayError>
     requires { asks call.now ≡ true }
     ensures does { IfOk result (DoesCall (defined_in handles.now) encoder.old encoder.new call.now) }
     ensures refused { IfErr result (RefusesUnder (defined_in handles.now) line call.now) }
 {
     match call {
-        Call::Register { handle } => {
+        ScriptCall::Register { handle } => {
             let schema = schema_at(&handles.schemas, line, *handle)?;
             Ok(wire_id_reply(encoder.register_existing(schema)))
         }
-        Call::Event {
+        ScriptCall::Event {
             handle,
             time,
             values,
@@ -393,7 +393,7 @@ fn reply_of(
             let schema = schema_at(&handles.schemas, line, *handle)?;
             Ok(done_reply(encoder.write_event(schema, *time, values)))
         }
-        Call::WriteTyped {
+        ScriptCall::WriteTyped {
             handle,
             time,
             values,
@@ -404,13 +404,13 @@ fn reply_of(
                 Err(unheld) => Err(unheld_at(line, unheld)),
             }
         }
-        Call::InternString { text } => Ok(text_reply(encoder.intern_string(text))),
-        Call::InternStack { frames } => Ok(stack_reply(encoder.intern_stack_frames(frames))),
-        Call::StringPool { entries } => {
+        ScriptCall::InternString { text } => Ok(text_reply(encoder.intern_string(text))),
+        ScriptCall::InternStack { frames } => Ok(stack_reply(encoder.intern_stack_frames(frames))),
+        ScriptCall::StringPool { entries } => {
             let entries = pool_of(alloc, entries)?;
             Ok(done_reply(encoder.write_string_pool(&entries)))
         }
-        Call::StackPool { entries } => {
+        ScriptCall::StackPool { entries } => {
             let entries = stack_pool_of(alloc, entries)?;
             Ok(done_reply(encoder.write_stack_pool(&entries)))
         }
@@ -552,7 +552,7 @@ fn push_reply(out: &mut String, reply: LineReply, written: u64) -> Result<(), Al
         LineReply::Silent => out.push_str("-")?,
         LineReply::Reset => out.push_str("reset")?,
         LineReply::Resumed { length } => write!(out, "resume {length}")?,
-        LineReply::Answered(reply) => push_answer(out, reply)?,
+        LineReply::Replied(reply) => push_answer(out, reply)?,
     }
     writeln!(out, " bytes={written}")
 }

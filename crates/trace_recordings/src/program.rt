@@ -2,9 +2,9 @@
 
 ghost use Rattle.std.specs.Prelude.{◌≡◌, ◌≤◌, IfOk, string_bytes};
 ghost use Rattle.std.specs.Process.{exit_status};
-ghost use Rattle.trace_recordings.specs.Program.{AsksFor, Answers, status_with};
+ghost use Rattle.trace_recordings.specs.Program.{AsksToReplay, Answers, status_with};
 
-use crate::findings::{Findings, PartOutcome, findings_of};
+use crate::findings::{Findings, PartFinding, findings_of};
 use crate::player::{PlayError, Played, play};
 use crate::recording::recordings_of;
 use crate::tally::Tally;
@@ -27,7 +27,7 @@ const SETS: [&str; 4] = ["public", "malformed", "model", "types"];
 
 /// What a program is asked for.
 #[derive(Clone, Copy, PartialEq, Eq)]
-pub enum Task {
+pub enum ReplayTask {
     /// To compare the sets of recordings.
     ReplaySets,
     /// To play the script on standard input.
@@ -63,19 +63,19 @@ fn status_of_run(
     ensures { IfOk result (λ status. status ≤ UNREADABLE) }
 {
     match task_of_arguments(rt)? {
-        Task::ReplaySets => replay_sets(rt),
-        Task::PlayInput => play_input(rt),
-        Task::Usage => {
+        ReplayTask::ReplaySets => replay_sets(rt),
+        ReplayTask::PlayInput => play_input(rt),
+        ReplayTask::Usage => {
             eprintln!(rt; "usage: trace_replay [-]")?;
             Ok(UNREADABLE)
         }
     }
 }
 
-fn task_of_arguments(rt: &(impl AllocGlobal + Env)) -> io::Result<Task> {
+fn task_of_arguments(rt: &(impl AllocGlobal + Env)) -> io::Result<ReplayTask> {
     let arguments = match env::args(rt) {
         Ok(arguments) => arguments,
-        Err(error) if error.kind() == ErrorKind::InvalidData => return Ok(Task::Usage),
+        Err(error) if error.kind() == ErrorKind::InvalidData => return Ok(ReplayTask::Usage),
         Err(error) => return Err(error),
     };
     let words: Vec<String> = arguments.skip(1).collect(rt.alloc())?;
@@ -83,13 +83,13 @@ fn task_of_arguments(rt: &(impl AllocGlobal + Env)) -> io::Result<Task> {
 }
 
 /// What the words after the program's name ask for.
-pub fn task_of(words: &[String]) -> Task
-    ensures { AsksFor words.now result }
+pub fn task_of(words: &[String]) -> ReplayTask
+    ensures { AsksToReplay words.now result }
 {
     match words {
-        [] => Task::ReplaySets,
-        [word] if word.as_str() == "-" => Task::PlayInput,
-        _ => Task::Usage,
+        [] => ReplayTask::ReplaySets,
+        [word] if word.as_str() == "-" => ReplayTask::PlayInput,
+        _ => ReplayTask::Usage,
     }
 }
 
@@ -141,9 +141,9 @@ fn print_differences(
     rt: &impl Print,
     set: &str,
     name: &str,
-    outcome: &PartOutcome,
+    outcome: &PartFinding,
 ) -> io::Result<()> {
-    if let PartOutcome::Compared(differences) = outcome {
+    if let PartFinding::Compared(differences) = outcome {
         for difference in differences {
             println!(rt; "{set} {name}: {difference}")?;
         }

@@ -4,19 +4,19 @@ ghost use Rattle.std.specs.Prelude.{◌≡◌, ◌≢◌, ◌<◌, length, IfErr
 ghost use Rattle.std.specs.Option.{option_copied};
 ghost use Rattle.trace_recordings.specs.Scripts.{IsScript, IsBrokenAt, IsFirstLine, GainsCall, EndsWithReturn, SaysNoWord};
 ghost use Rattle.trace_recordings.specs.Tallies.{counted_up};
-ghost use Rattle.trace_recordings.specs.declared.script.fault.Fault.TheVariants.{CarriageReturn, Memory};
+ghost use Rattle.trace_recordings.specs.declared.script.line_error.LineError.TheVariants.{CarriageReturn, Memory};
 
 mod call;
 mod definitions;
-mod fault;
+mod line_error;
 mod line;
 mod loose;
 mod parts;
 mod pools;
 
-pub use call::Call;
+pub use call::ScriptCall;
 pub use definitions::Definition;
-pub use fault::Fault;
+pub use line_error::LineError;
 use line::call_of;
 pub use pools::{PoolStack, PoolText};
 use std::alloc::Global;
@@ -27,12 +27,12 @@ use thiserror::Error;
 #[error("line {line}: {fault}")]
 pub struct ScriptError {
     pub line: usize,
-    pub fault: Fault,
+    pub fault: LineError,
 }
 
 /// Reads a script: what each line asks for, in their order. A line ends with a line feed, which the last one may lack.
 #[tactic(auto, using(crate::proofs::ScriptLemmas::one_more, crate::proofs::ScriptLemmas::the_last))]
-pub fn script_of(alloc: Global, text: &[u8]) -> Result<Vec<Call>, ScriptError>
+pub fn script_of(alloc: Global, text: &[u8]) -> Result<Vec<ScriptCall>, ScriptError>
     ensures read { IfOk result (λ calls. IsScript calls.items text.now) }
     ensures broken { IfErr result (IsBrokenAt text.now) }
 {
@@ -63,7 +63,7 @@ fn first_line(text: &[u8]) -> (&[u8], Option<&[u8]>)
 }
 
 // Appends what a line asks for.
-fn push_call(alloc: Global, calls: &mut Vec<Call>, line: &[u8]) -> Result<(), ScriptError>
+fn push_call(alloc: Global, calls: &mut Vec<ScriptCall>, line: &[u8]) -> Result<(), ScriptError>
     ensures gains { OnOk result (GainsCall calls.old.items calls.new.items line.now) }
     ensures counts { IfErr result (λ error. error.line ≡ counted_up (length calls.old.items) 1) }
     ensures unsaid { IfErr result (λ error. error.fault ≢ Memory → SaysNoWord line.now) }
@@ -72,14 +72,14 @@ fn push_call(alloc: Global, calls: &mut Vec<Call>, line: &[u8]) -> Result<(), Sc
     match call_of(alloc, line) {
         Ok(call) => match calls.push(call) {
             Ok(()) => Ok(()),
-            Err(_) => Err(fault_at(before, Fault::Memory)),
+            Err(_) => Err(fault_at(before, LineError::Memory)),
         },
         Err(fault) => Err(fault_at(before, named(line, fault))),
     }
 }
 
 // A fault in the line after this many.
-fn fault_at(before: usize, fault: Fault) -> ScriptError
+fn fault_at(before: usize, fault: LineError) -> ScriptError
     ensures line { result.line ≡ counted_up before 1 }
     ensures fault { result.fault ≡ fault }
 {
@@ -90,16 +90,16 @@ fn fault_at(before: usize, fault: Fault) -> ScriptError
 }
 
 // By what name to tell the fault of a line: a carriage return at its end is told before all but want of memory.
-fn named(line: &[u8], fault: Fault) -> Fault
+fn named(line: &[u8], fault: LineError) -> LineError
     ensures memory { fault ≡ Memory → result ≡ Memory }
     ensures returned { fault ≢ Memory → EndsWithReturn line.now → result ≡ CarriageReturn }
     ensures other { (EndsWithReturn line.now → ⊥) → result ≡ fault }
 {
-    if fault == Fault::Memory {
+    if fault == LineError::Memory {
         return fault;
     }
     match line.last() {
-        Some(b'\r') => Fault::CarriageReturn,
+        Some(b'\r') => LineError::CarriageReturn,
         _ => fault,
     }
 }

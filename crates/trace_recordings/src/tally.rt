@@ -3,7 +3,7 @@
 ghost use Rattle.std.specs.Prelude.{◌≡◌, ◌<◌, ◌↔◌, ◌⊎◌, position, IsTrue, OnOk};
 ghost use Rattle.trace_recordings.specs.Tallies.{counted_up, counts_of, is_named, nothing_seen, seen_in, one_more_of, with_outcome, with_readings};
 
-use crate::findings::{Findings, PartOutcome};
+use crate::findings::{Findings, PartFinding};
 use std::alloc::{AllocError, Global};
 use std::fmt;
 
@@ -82,13 +82,13 @@ impl Parts {
         }
     }
 
-    fn add(&mut self, outcome: &PartOutcome) -> Result<(), AllocError>
+    fn add(&mut self, outcome: &PartFinding) -> Result<(), AllocError>
         ensures { OnOk result (seen_in self.new ≡ with_outcome outcome.now (seen_in self.old)) }
     {
         match outcome {
-            PartOutcome::Absent => {}
-            PartOutcome::LeftOut(name) => leave_out(&mut self.left_out, name)?,
-            PartOutcome::Compared(differences) => {
+            PartFinding::Absent => {}
+            PartFinding::LeftOut(name) => leave_out(&mut self.left_out, name)?,
+            PartFinding::Compared(differences) => {
                 self.compared = self.compared.saturating_add(1);
                 self.differences = self.differences.saturating_add(differences.len() as u64);
             }

@@ -7,7 +7,7 @@ use Rattle.trace_wire.specs.Schemas.{Field, Annotation, Entry}
 
 -- a field of this name and type
 abbrev pub field : List ℕ → FieldType → Field
-field name kind = record { name = name; kind = kind }
+field name kind = record { name = name; field_type = kind }
 
 -- a field, of its name and its type
 abbrev pub defined : Bor (List ℕ) × FieldType → Field

@@ -1,3 +1,3 @@
 pub mod EventEntries
-pub mod Scripts
+pub mod Manners
 pub mod Telling

@@ -2,8 +2,8 @@
 #![tactic(auto)]
 
 pub mod events;
-pub mod script;
+pub mod manner;
 pub mod told;
 
-pub use script::{Failing, Refusal, Script};
+pub use manner::{Failing, Refusal, Manner};
 pub use told::Told;

@@ -2,24 +2,24 @@
 
 ghost use Rattle.std.specs.Prelude.{◌≡◌, ◌≢◌, ◌≤◌, ◌↔◌, [], IfOk, IsTrue, length};
 ghost use Rattle.trace_values.specs.Sending.{Took, Holds, Settles, taken, send_faults, settle_faults};
-ghost use Rattle.trace_samples.specs.Telling.{all_told, new_teller, Follows, FollowsSettling, IsRefusal, script_spent};
-ghost use Rattle.trace_samples.specs.Scripts.{next_refusal};
+ghost use Rattle.trace_samples.specs.Telling.{all_told, new_teller, Follows, FollowsSettling, IsRefusal, manner_spent};
+ghost use Rattle.trace_samples.specs.Manners.{next_refusal};
 
-use crate::script::{ROOM, Refusal, Script};
+use crate::manner::{ROOM, Refusal, Manner};
 use std::io;
 use std::io::ErrorKind;
 use std::marker::Model;
 use trace_values::leb128::{Faults, TraceWrite};
 
 /// A writer over a fixed array. It tells the bytes that it accepted, its faults, and which bytes it has not handed on yet; it takes
-/// no memory, and fails as its script says.
+/// no memory, and fails as its manner says.
 #[derive(Drop)]
 pub struct Told {
     buffer: [u8; ROOM],
     length: usize,
     faults: Faults,
     handed: usize,
-    script: Script,
+    manner: Manner,
 }
 
 impl Model for Told {
@@ -29,7 +29,7 @@ impl Model for Told {
     ghost Value = { Teller };
 
     ghost view = { λ t. let bytes = take t.length t.buffer in
-        record { bytes = bytes; faults = t.faults; waiting = drop t.handed bytes; script = t.script } };
+        record { bytes = bytes; faults = t.faults; waiting = drop t.handed bytes; manner = t.manner } };
 
     ghost invariant = { λ t. (t.handed ≤ t.length) × (t.length ≤ 1024) };
 }
@@ -37,7 +37,7 @@ impl Model for Told {
 impl TraceWrite for Told {
     ghost told = { all_told };
 
-    /// Accepts of the piece what the script allows. Where that is nothing, it fails by the script, and tells the fault.
+    /// Accepts of the piece what the manner allows. Where that is nothing, it fails by the manner, and tells the fault.
     fn send(&mut self, piece: &[u8]) -> io::Result<usize>
         ensures within { IfOk result (λ n. n ≤ length piece.now) }
         ensures took { Took (all_told self.old) (all_told self.new) (taken result piece.now) (send_faults result piece.now) }
@@ -47,8 +47,8 @@ impl TraceWrite for Told {
         if piece.is_empty() {
             return Ok(0);
         }
-        let room = self.script.end().saturating_sub(self.length);
-        let count = piece.len().min(self.script.step.min(room));
+        let room = self.manner.end().saturating_sub(self.length);
+        let count = piece.len().min(self.manner.step.min(room));
         if count == 0 {
             return self.refuse(piece);
         }
@@ -57,14 +57,14 @@ impl TraceWrite for Told {
         Ok(count)
     }
 
-    /// Notes that all bytes were handed on, or fails by the script, and tells the fault.
+    /// Notes that all bytes were handed on, or fails by the manner, and tells the fault.
     fn settle(&mut self) -> io::Result<()>
         ensures took { Took (all_told self.old) (all_told self.new) [] (settle_faults result) }
         ensures settles { Settles (all_told self.old) (all_told self.new) result }
-        ensures follows { FollowsSettling self.old.script.settling result }
-        ensures script { self.new.script ≡ self.old.script }
+        ensures follows { FollowsSettling self.old.manner.settling result }
+        ensures manner { self.new.manner ≡ self.old.manner }
     {
-        if let Some(fault) = self.script.settling {
+        if let Some(fault) = self.manner.settling {
             self.faults.add(fault);
             return Err(io::Error::from(fault));
         }
@@ -75,15 +75,15 @@ impl TraceWrite for Told {
 
 impl Told {
     /// A writer that has accepted nothing. It is settled.
-    pub fn new(script: Script) -> Told
-        ensures { result ≡ new_teller script }
+    pub fn new(manner: Manner) -> Told
+        ensures { result ≡ new_teller manner }
     {
         Told {
             buffer: [0; ROOM],
             length: 0,
             faults: Faults::NoFault,
             handed: 0,
-            script,
+            manner,
         }
     }
 
@@ -108,15 +108,15 @@ impl Told {
         self.handed == self.length
     }
 
-    // Refuses a piece that is not empty by the script, and tells the fault.
+    // Refuses a piece that is not empty by the manner, and tells the fault.
     fn refuse(&mut self, piece: &[u8]) -> io::Result<usize>
         requires { length piece.now ≢ 0 }
         ensures took { Took (all_told self.old) (all_told self.new) (taken result piece.now) (send_faults result piece.now) }
-        ensures refuses { IsRefusal (next_refusal self.old.script.failing) result }
-        ensures same { self.new ≡ record self.old { faults = self.new.faults; script = script_spent self.old.script } }
+        ensures refuses { IsRefusal (next_refusal self.old.manner.failing) result }
+        ensures same { self.new ≡ record self.old { faults = self.new.faults; manner = manner_spent self.old.manner } }
     {
-        let refusal = self.script.failing.next_refusal();
-        self.script.failing = self.script.failing.spent();
+        let refusal = self.manner.failing.next_refusal();
+        self.manner.failing = self.manner.failing.spent();
         match refusal {
             Refusal::Zero => {
                 self.faults.add(ErrorKind::WriteZero);

@@ -10,7 +10,7 @@ use trace_values::types::FieldValue;
 /// What a line of a script asks for (docs/RECORDINGS.md, "Scripts"). A handle is a number that the script chooses for a schema
 /// or for a type of events. Times are in nanoseconds.
 #[derive(Drop)]
-pub enum Call {
+pub enum ScriptCall {
     /// Nothing: the line is empty, or begins with `#`.
     Nothing,
     /// Makes a schema.
@@ -68,26 +68,26 @@ pub enum Call {
     Bare,
 }
 
-impl Call {
+impl ScriptCall {
     /// The word by which a line of the call begins, and nothing where the line asks for nothing.
     pub fn name(&self) -> &'static str
         ensures { result.now ≡ word_of self.now }
     {
         match self {
-            Call::Nothing => "",
-            Call::Define { .. } => "define",
-            Call::Register { .. } => "register",
-            Call::Event { .. } => "event",
-            Call::DefineType { .. } => "type",
-            Call::WriteTyped { .. } => "write",
-            Call::InternString { .. } => "string",
-            Call::InternStack { .. } => "stack",
-            Call::StringPool { .. } => "strings",
-            Call::StackPool { .. } => "stacks",
-            Call::Reset => "reset",
-            Call::Resume => "resume",
-            Call::Raw { .. } => "raw",
-            Call::Bare => "bare",
+            ScriptCall::Nothing => "",
+            ScriptCall::Define { .. } => "define",
+            ScriptCall::Register { .. } => "register",
+            ScriptCall::Event { .. } => "event",
+            ScriptCall::DefineType { .. } => "type",
+            ScriptCall::WriteTyped { .. } => "write",
+            ScriptCall::InternString { .. } => "string",
+            ScriptCall::InternStack { .. } => "stack",
+            ScriptCall::StringPool { .. } => "strings",
+            ScriptCall::StackPool { .. } => "stacks",
+            ScriptCall::Reset => "reset",
+            ScriptCall::Resume => "resume",
+            ScriptCall::Raw { .. } => "raw",
+            ScriptCall::Bare => "bare",
         }
     }
 }

@@ -4,8 +4,9 @@ ghost use Rattle.std.specs.Prelude.{◌≡◌, ◌<◌, ◌++◌, length, IfOk};
 ghost use Rattle.std.specs.List.{flat_map};
 ghost use Rattle.trace_lines.specs.Lines.{field_text};
 ghost use Rattle.trace_recordings.specs.Definitions.{annotation_part, definition_text};
+ghost use Rattle.trace_recordings.specs.Scripts.{Shortens};
 
-use crate::script::fault::Fault;
+use crate::script::line_error::LineError;
 use crate::script::parts::{after_mark, name_at, number_at, type_at};
 use std::alloc::Global;
 use trace_wire::schema::FieldDef;
@@ -15,12 +16,12 @@ use trace_wire::schema::FieldDef;
 pub struct Definition {
     pub name: String,
     pub fields: Vec<FieldDef>,
-    pub annotations: Vec<Annotation>,
+    pub annotations: Vec<ScriptAnnotation>,
 }
 
 /// A key and a value for the field with an index.
 #[derive(Drop)]
-pub struct Annotation {
+pub struct ScriptAnnotation {
     pub index: u16,
     pub key: String,
     pub value: String,
@@ -28,7 +29,7 @@ pub struct Annotation {
 
 /// The definition that a whole line says: its name, its fields, and its annotations.
 #[tactic(auto, unfolding(crate::specs::Definitions::definition_text))]
-pub fn definition_of(alloc: Global, line: &[u8]) -> Result<Definition, Fault>
+pub fn definition_of(alloc: Global, line: &[u8]) -> Result<Definition, LineError>
     ensures { IfOk result (λ definition. line.now ≡ definition_text definition) }
 {
     let (name, rest) = name_at(alloc, line)?;
@@ -42,7 +43,7 @@ pub fn definition_of(alloc: Global, line: &[u8]) -> Result<Definition, Fault>
 }
 
 // The fields, and the rest.
-fn fields_at(alloc: Global, line: &[u8]) -> Result<(Vec<FieldDef>, &[u8]), Fault>
+fn fields_at(alloc: Global, line: &[u8]) -> Result<(Vec<FieldDef>, &[u8]), LineError>
     ensures { IfOk result (λ x. line.now ≡ flat_map field_text x.0.items ++ x.1.now) }
 {
     let mut fields = Vec::new(alloc);
@@ -57,19 +58,19 @@ fn fields_at(alloc: Global, line: &[u8]) -> Result<(Vec<FieldDef>, &[u8]), Fault
 
 // A space, a name, a colon and a type, and the rest.
 #[tactic(auto, unfolding(trace_lines::specs::Lines::field_text))]
-fn field_at(alloc: Global, line: &[u8]) -> Result<(FieldDef, &[u8]), Fault>
+fn field_at(alloc: Global, line: &[u8]) -> Result<(FieldDef, &[u8]), LineError>
     ensures text { IfOk result (λ x. line.now ≡ field_text x.0 ++ x.1.now) }
-    ensures shorter { IfOk result (λ x. length x.1.now < length line.now) }
+    ensures shorter { Shortens line.now result }
 {
-    let rest = after_mark(line, b" ").ok_or(Fault::Mark(' '))?;
+    let rest = after_mark(line, b" ").ok_or(LineError::Mark(' '))?;
     let (name, rest) = name_at(alloc, rest)?;
-    let rest = after_mark(rest, b":").ok_or(Fault::Mark(':'))?;
+    let rest = after_mark(rest, b":").ok_or(LineError::Mark(':'))?;
     let (field_type, rest) = type_at(rest)?;
     Ok((FieldDef::new(alloc, name.as_str(), field_type)?, rest))
 }
 
 // Annotations up to the end of the line.
-fn annotations_of(alloc: Global, line: &[u8]) -> Result<Vec<Annotation>, Fault>
+fn annotations_of(alloc: Global, line: &[u8]) -> Result<Vec<ScriptAnnotation>, LineError>
     ensures { IfOk result (λ v. line.now ≡ flat_map annotation_part v.items) }
 {
     let mut annotations = Vec::new(alloc);
@@ -84,16 +85,16 @@ fn annotations_of(alloc: Global, line: &[u8]) -> Result<Vec<Annotation>, Fault>
 
 // A space, `@`, the index of a field, a colon, a key, an equals sign and a value, and the rest.
 #[tactic(auto, unfolding(crate::specs::Definitions::annotation_part))]
-fn annotation_at(alloc: Global, line: &[u8]) -> Result<(Annotation, &[u8]), Fault>
+fn annotation_at(alloc: Global, line: &[u8]) -> Result<(ScriptAnnotation, &[u8]), LineError>
     ensures text { IfOk result (λ x. line.now ≡ annotation_part x.0 ++ x.1.now) }
-    ensures shorter { IfOk result (λ x. length x.1.now < length line.now) }
+    ensures shorter { Shortens line.now result }
 {
-    let rest = after_mark(line, b" @").ok_or(Fault::Mark('@'))?;
+    let rest = after_mark(line, b" @").ok_or(LineError::Mark('@'))?;
     let (index, rest) = number_at(alloc, rest)?;
-    let index = u16::try_from(index).map_err(|_| Fault::TooLarge)?;
-    let rest = after_mark(rest, b":").ok_or(Fault::Mark(':'))?;
+    let index = u16::try_from(index).map_err(|_| LineError::TooLarge)?;
+    let rest = after_mark(rest, b":").ok_or(LineError::Mark(':'))?;
     let (key, rest) = name_at(alloc, rest)?;
-    let rest = after_mark(rest, b"=").ok_or(Fault::Mark('='))?;
+    let rest = after_mark(rest, b"=").ok_or(LineError::Mark('='))?;
     let (value, rest) = name_at(alloc, rest)?;
-    Ok((Annotation { index, key, value }, rest))
+    Ok((ScriptAnnotation { index, key, value }, rest))
 }

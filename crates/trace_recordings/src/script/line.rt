@@ -4,11 +4,11 @@ ghost use Rattle.std.specs.Prelude.{◌≡◌, ◌<◌, ◌++◌, ℕ, List, [],
 ghost use Rattle.std.specs.List.{flat_map};
 ghost use Rattle.trace_values.specs.View.{view, views};
 ghost use Rattle.trace_lines.specs.Lines.{spaced_value};
-ghost use Rattle.trace_recordings.specs.Scripts.{event_text, AreDigitsOf, IsPair, Says, SaysNoWord};
+ghost use Rattle.trace_recordings.specs.Scripts.{event_text, AreDigitsOf, IsPair, Says, SaysNoWord, Shortens};
 
-use crate::script::call::Call;
+use crate::script::call::ScriptCall;
 use crate::script::definitions::definition_of;
-use crate::script::fault::Fault;
+use crate::script::line_error::LineError;
 use crate::script::parts::{addresses_at, after_mark, name_at, number_at, value_at};
 use crate::script::pools::{pool_stacks, pool_texts};
 use hex::FromHex;
@@ -16,7 +16,7 @@ use std::alloc::Global;
 use trace_values::types::FieldValue;
 
 /// Reads what a line asks for.
-pub fn call_of(alloc: Global, line: &[u8]) -> Result<Call, Fault>
+pub fn call_of(alloc: Global, line: &[u8]) -> Result<ScriptCall, LineError>
     ensures says { IfOk result (λ call. Says call line.now) }
     ensures unsaid { IfErr result (λ _. SaysNoWord line.now) }
 {
@@ -28,21 +28,21 @@ pub fn call_of(alloc: Global, line: &[u8]) -> Result<Call, Fault>
 
 // What a line asks for that says nothing, or is one word.
 #[tactic(auto, using(crate::proofs::ScriptLemmas::no_word))]
-fn word_of(line: &[u8]) -> Option<Call>
+fn word_of(line: &[u8]) -> Option<ScriptCall>
     ensures says { IfSome result (λ call. Says call line.now) }
     ensures unsaid { IsNone result → SaysNoWord line.now }
 {
     match line {
-        [] | [b'#', ..] => Some(Call::Nothing),
-        b"reset" => Some(Call::Reset),
-        b"resume" => Some(Call::Resume),
-        b"bare" => Some(Call::Bare),
+        [] | [b'#', ..] => Some(ScriptCall::Nothing),
+        b"reset" => Some(ScriptCall::Reset),
+        b"resume" => Some(ScriptCall::Resume),
+        b"bare" => Some(ScriptCall::Bare),
         _ => None,
     }
 }
 
 // What a line asks for that has parts after its word.
-fn parts_of(alloc: Global, line: &[u8]) -> Result<Call, Fault>
+fn parts_of(alloc: Global, line: &[u8]) -> Result<ScriptCall, LineError>
     ensures { IfOk result (λ call. Says call line.now) }
 {
     let (word, rest) = first_word(line);
@@ -57,7 +57,7 @@ fn parts_of(alloc: Global, line: &[u8]) -> Result<Call, Fault>
         b"strings" => strings_call(alloc, rest),
         b"stacks" => stacks_call(alloc, rest),
         b"raw" => raw_call(alloc, rest),
-        _ => Err(Fault::Call),
+        _ => Err(LineError::ScriptCall),
     }
 }
 
@@ -73,29 +73,29 @@ fn first_word(line: &[u8]) -> (&[u8], &[u8])
 }
 
 // A handle, and what the schema is.
-fn define_call(alloc: Global, line: &[u8]) -> Result<Call, Fault>
+fn define_call(alloc: Global, line: &[u8]) -> Result<ScriptCall, LineError>
     ensures { IfOk result (λ call. Says call (codes "define" ++ line.now)) }
 {
     let (handle, rest) = number_at(alloc, space(line)?)?;
     let definition = definition_of(alloc, space(rest)?)?;
-    Ok(Call::Define { handle, definition })
+    Ok(ScriptCall::Define { handle, definition })
 }
 
 // A handle.
-fn register_call(alloc: Global, line: &[u8]) -> Result<Call, Fault>
+fn register_call(alloc: Global, line: &[u8]) -> Result<ScriptCall, LineError>
     ensures { IfOk result (λ call. Says call (codes "register" ++ line.now)) }
 {
     let (handle, rest) = number_at(alloc, space(line)?)?;
     nothing_left(rest)?;
-    Ok(Call::Register { handle })
+    Ok(ScriptCall::Register { handle })
 }
 
 // What an event is.
-fn event_call(alloc: Global, line: &[u8]) -> Result<Call, Fault>
+fn event_call(alloc: Global, line: &[u8]) -> Result<ScriptCall, LineError>
     ensures { IfOk result (λ call. Says call (codes "event" ++ line.now)) }
 {
     let (handle, time, values) = event_parts(alloc, space(line)?)?;
-    Ok(Call::Event {
+    Ok(ScriptCall::Event {
         handle,
         time,
         values,
@@ -103,13 +103,13 @@ fn event_call(alloc: Global, line: &[u8]) -> Result<Call, Fault>
 }
 
 // A handle, a slot, and what the type's events are.
-fn type_call(alloc: Global, line: &[u8]) -> Result<Call, Fault>
+fn type_call(alloc: Global, line: &[u8]) -> Result<ScriptCall, LineError>
     ensures { IfOk result (λ call. Says call (codes "type" ++ line.now)) }
 {
     let (handle, rest) = number_at(alloc, space(line)?)?;
     let (slot, rest) = number_at(alloc, space(rest)?)?;
     let definition = definition_of(alloc, space(rest)?)?;
-    Ok(Call::DefineType {
+    Ok(ScriptCall::DefineType {
         handle,
         slot,
         definition,
@@ -117,11 +117,11 @@ fn type_call(alloc: Global, line: &[u8]) -> Result<Call, Fault>
 }
 
 // What an event of a type is.
-fn write_call(alloc: Global, line: &[u8]) -> Result<Call, Fault>
+fn write_call(alloc: Global, line: &[u8]) -> Result<ScriptCall, LineError>
     ensures { IfOk result (λ call. Says call (codes "write" ++ line.now)) }
 {
     let (handle, time, values) = event_parts(alloc, space(line)?)?;
-    Ok(Call::WriteTyped {
+    Ok(ScriptCall::WriteTyped {
         handle,
         time,
         values,
@@ -129,50 +129,50 @@ fn write_call(alloc: Global, line: &[u8]) -> Result<Call, Fault>
 }
 
 // A text.
-fn string_call(alloc: Global, line: &[u8]) -> Result<Call, Fault>
+fn string_call(alloc: Global, line: &[u8]) -> Result<ScriptCall, LineError>
     ensures { IfOk result (λ call. Says call (codes "string" ++ line.now)) }
 {
     let (text, rest) = name_at(alloc, space(line)?)?;
     nothing_left(rest)?;
-    Ok(Call::InternString { text })
+    Ok(ScriptCall::InternString { text })
 }
 
 // Addresses.
-fn stack_call(alloc: Global, line: &[u8]) -> Result<Call, Fault>
+fn stack_call(alloc: Global, line: &[u8]) -> Result<ScriptCall, LineError>
     ensures { IfOk result (λ call. Says call (codes "stack" ++ line.now)) }
 {
     let (frames, rest) = addresses_at(alloc, space(line)?)?;
     nothing_left(rest)?;
-    Ok(Call::InternStack { frames })
+    Ok(ScriptCall::InternStack { frames })
 }
 
 // The entries of a string pool.
-fn strings_call(alloc: Global, line: &[u8]) -> Result<Call, Fault>
+fn strings_call(alloc: Global, line: &[u8]) -> Result<ScriptCall, LineError>
     ensures { IfOk result (λ call. Says call (codes "strings" ++ line.now)) }
 {
     let entries = pool_texts(alloc, line)?;
-    Ok(Call::StringPool { entries })
+    Ok(ScriptCall::StringPool { entries })
 }
 
 // The entries of a stack pool.
-fn stacks_call(alloc: Global, line: &[u8]) -> Result<Call, Fault>
+fn stacks_call(alloc: Global, line: &[u8]) -> Result<ScriptCall, LineError>
     ensures { IfOk result (λ call. Says call (codes "stacks" ++ line.now)) }
 {
     let entries = pool_stacks(alloc, line)?;
-    Ok(Call::StackPool { entries })
+    Ok(ScriptCall::StackPool { entries })
 }
 
 // Bytes.
-fn raw_call(alloc: Global, line: &[u8]) -> Result<Call, Fault>
+fn raw_call(alloc: Global, line: &[u8]) -> Result<ScriptCall, LineError>
     ensures { IfOk result (λ call. Says call (codes "raw" ++ line.now)) }
 {
     let bytes = hex_bytes(alloc, space(line)?)?;
-    Ok(Call::Raw { bytes })
+    Ok(ScriptCall::Raw { bytes })
 }
 
 // A handle, a time, and the values of an event.
 #[tactic(auto, unfolding(crate::specs::Scripts::event_text))]
-fn event_parts(alloc: Global, line: &[u8]) -> Result<(u64, u64, Vec<FieldValue>), Fault>
+fn event_parts(alloc: Global, line: &[u8]) -> Result<(u64, u64, Vec<FieldValue>), LineError>
     ensures { IfOk result (λ x. line.now ≡ event_text x.0 x.1 (views x.2.items)) }
 {
     let (handle, rest) = number_at(alloc, line)?;
@@ -182,7 +182,7 @@ fn event_parts(alloc: Global, line: &[u8]) -> Result<(u64, u64, Vec<FieldValue>)
 }
 
 // Values up to the end of the line, each after a space.
-fn values_of(alloc: Global, line: &[u8]) -> Result<Vec<FieldValue>, Fault>
+fn values_of(alloc: Global, line: &[u8]) -> Result<Vec<FieldValue>, LineError>
     ensures { IfOk result (λ vs. line.now ≡ flat_map spaced_value (views vs.items)) }
 {
     let mut values = Vec::new(alloc);
@@ -196,21 +196,21 @@ fn values_of(alloc: Global, line: &[u8]) -> Result<Vec<FieldValue>, Fault>
 }
 
 // A value after a space, and the rest.
-fn spaced_value_at(alloc: Global, line: &[u8]) -> Result<(FieldValue, &[u8]), Fault>
+fn spaced_value_at(alloc: Global, line: &[u8]) -> Result<(FieldValue, &[u8]), LineError>
     ensures text { IfOk result (λ x. line.now ≡ spaced_value (view x.0) ++ x.1.now) }
-    ensures shorter { IfOk result (λ x. length x.1.now < length line.now) }
+    ensures shorter { Shortens line.now result }
 {
     value_at(alloc, space(line)?)
 }
 
 // The bytes of pairs of hexadecimal digits, between which a space may stand.
-fn hex_bytes(alloc: Global, line: &[u8]) -> Result<Vec<u8>, Fault>
+fn hex_bytes(alloc: Global, line: &[u8]) -> Result<Vec<u8>, LineError>
     ensures { IfOk result (λ bytes. AreDigitsOf bytes.items line.now) }
 {
     let mut bytes = Vec::new(alloc);
     let mut rest = line;
     loop {
-        let (byte, after) = pair_at(rest).ok_or(Fault::Hexadecimal)?;
+        let (byte, after) = pair_at(rest).ok_or(LineError::Hexadecimal)?;
         bytes.push(byte)?;
         match after {
             [] => return Ok(bytes),
@@ -231,18 +231,18 @@ fn pair_at(text: &[u8]) -> Option<(u8, &[u8])>
 }
 
 // What stands after a space.
-fn space(line: &[u8]) -> Result<&[u8], Fault>
+fn space(line: &[u8]) -> Result<&[u8], LineError>
     ensures { IfOk result (λ rest. line.now ≡ codes " " ++ rest.now) }
 {
-    after_mark(line, b" ").ok_or(Fault::Mark(' '))
+    after_mark(line, b" ").ok_or(LineError::Mark(' '))
 }
 
 // Nothing stands there.
-fn nothing_left(line: &[u8]) -> Result<(), Fault>
+fn nothing_left(line: &[u8]) -> Result<(), LineError>
     ensures { OnOk result (line.now ≡ []) }
 {
     if !line.is_empty() {
-        return Err(Fault::Excess);
+        return Err(LineError::Excess);
     }
     Ok(())
 }

@@ -3,10 +3,11 @@
 
 ghost use Rattle.std.specs.Prelude.{◌≡◌, ◌-◌, ◌+◌, ◌<◌, ◌≤◌, drop, length, IfOk, IfSome};
 
-use crate::script::fault::Fault;
+use crate::script::line_error::LineError;
 use crate::script::parts::after_mark;
 use std::alloc::Global;
 use trace_values::types::{FieldValue, InternedStackFrames, InternedString, StackFrames};
+ghost use Rattle.trace_recordings.specs.Scripts.{Shortens};
 
 /// The number of the digits at the front, and the rest. It wraps at 64 bits, and is 0 where no digit stands.
 pub fn number(text: &[u8], radix: u32) -> (u64, &[u8])
@@ -28,23 +29,23 @@ pub fn number(text: &[u8], radix: u32) -> (u64, &[u8])
 }
 
 /// The bytes of the text in quotes at the front, and the rest.
-pub fn text(alloc: Global, line: &[u8]) -> Result<(Vec<u8>, &[u8]), Fault>
-    ensures { IfOk result (λ x. length x.1.now < length line.now) }
+pub fn text(alloc: Global, line: &[u8]) -> Result<(Vec<u8>, &[u8]), LineError>
+    ensures { Shortens line.now result }
 {
     let mut bytes = Vec::new(alloc);
-    let mut rest = after_mark(line, b"\"").ok_or(Fault::Text)?;
+    let mut rest = after_mark(line, b"\"").ok_or(LineError::Text)?;
     loop {
         match rest {
             [b'"', after @ ..] => return Ok((bytes, after)),
             [b'\\', b'x', high, low, after @ ..] => {
-                bytes.push(hex_byte(*high, *low).ok_or(Fault::Text)?)?;
+                bytes.push(hex_byte(*high, *low).ok_or(LineError::Text)?)?;
                 rest = after;
             }
             [byte, after @ ..] => {
                 bytes.push(*byte)?;
                 rest = after;
             }
-            [] => return Err(Fault::Text),
+            [] => return Err(LineError::Text),
         }
     }
 }
@@ -57,30 +58,30 @@ fn hex_byte(high: u8, low: u8) -> Option<u8> {
 }
 
 /// The addresses in brackets at the front, and the rest.
-pub fn addresses(alloc: Global, line: &[u8]) -> Result<(Vec<u64>, &[u8]), Fault>
-    ensures { IfOk result (λ x. length x.1.now < length line.now) }
+pub fn addresses(alloc: Global, line: &[u8]) -> Result<(Vec<u64>, &[u8]), LineError>
+    ensures { Shortens line.now result }
 {
     let mut addresses = Vec::new(alloc);
-    let mut rest = after_mark(line, b"[").ok_or(Fault::Addresses)?;
+    let mut rest = after_mark(line, b"[").ok_or(LineError::Addresses)?;
     if let [b']', after @ ..] = rest {
         return Ok((addresses, after));
     }
     loop {
-        let digits = after_mark(rest, b"0x").ok_or(Fault::Addresses)?;
+        let digits = after_mark(rest, b"0x").ok_or(LineError::Addresses)?;
         let (address, after) = number(digits, 16);
         addresses.push(address)?;
         match after {
             [b',', more @ ..] => rest = more,
             [b']', more @ ..] => return Ok((addresses, more)),
-            _ => return Err(Fault::Addresses),
+            _ => return Err(LineError::Addresses),
         }
     }
 }
 
 /// The value at the front, which has at most this many values around its innermost one, and the rest.
 #[cycle(loose)]
-pub fn value(alloc: Global, levels: u32, line: &[u8]) -> Result<(FieldValue, &[u8]), Fault>
-    ensures { IfOk result (λ x. length x.1.now < length line.now) }
+pub fn value(alloc: Global, levels: u32, line: &[u8]) -> Result<(FieldValue, &[u8]), LineError>
+    ensures { Shortens line.now result }
 {
     if let Some(found) = plain(line) {
         return Ok(found);
@@ -122,18 +123,18 @@ fn plain(line: &[u8]) -> Option<(FieldValue, &[u8])>
 }
 
 // The id of a text or of a stack at the front, and the rest.
-fn pooled(line: &[u8]) -> Result<Option<(FieldValue, &[u8])>, Fault>
+fn pooled(line: &[u8]) -> Result<Option<(FieldValue, &[u8])>, LineError>
     ensures { IfOk result (λ found. IfSome found (λ x. length x.1.now < length line.now)) }
 {
     if let Some(rest) = after_mark(line, b"PooledString:pool#") {
         let (id, rest) = number(rest, 10);
-        let id = u32::try_from(id).map_err(|_| Fault::TooLarge)?;
+        let id = u32::try_from(id).map_err(|_| LineError::TooLarge)?;
         let id = InternedString::from_raw(id);
         return Ok(Some((FieldValue::PooledString(id), rest)));
     }
     if let Some(rest) = after_mark(line, b"PooledStackFrames:stack#") {
         let (id, rest) = number(rest, 10);
-        let id = u32::try_from(id).map_err(|_| Fault::TooLarge)?;
+        let id = u32::try_from(id).map_err(|_| LineError::TooLarge)?;
         let id = InternedStackFrames::from_raw(id);
         return Ok(Some((FieldValue::PooledStackFrames(id), rest)));
     }
@@ -141,12 +142,12 @@ fn pooled(line: &[u8]) -> Result<Option<(FieldValue, &[u8])>, Fault>
 }
 
 // A text, bytes, addresses or a map of texts at the front, and the rest.
-fn held(alloc: Global, line: &[u8]) -> Result<Option<(FieldValue, &[u8])>, Fault>
+fn held(alloc: Global, line: &[u8]) -> Result<Option<(FieldValue, &[u8])>, LineError>
     ensures { IfOk result (λ found. IfSome found (λ x. length x.1.now < length line.now)) }
 {
     if let Some(rest) = after_mark(line, b"String:") {
         let (bytes, rest) = text(alloc, rest)?;
-        let text = String::from_utf8(bytes).map_err(|_| Fault::Utf8)?;
+        let text = String::from_utf8(bytes).map_err(|_| LineError::Utf8)?;
         return Ok(Some((FieldValue::String(text), rest)));
     }
     if let Some(rest) = after_mark(line, b"Bytes:") {
@@ -181,8 +182,8 @@ fn integer(line: &[u8]) -> (FieldValue, &[u8])
 }
 
 // The pairs of a string map up to its closing brace, and the rest.
-fn text_pairs(alloc: Global, line: &[u8]) -> Result<(Vec<(Vec<u8>, Vec<u8>)>, &[u8]), Fault>
-    ensures { IfOk result (λ x. length x.1.now < length line.now) }
+fn text_pairs(alloc: Global, line: &[u8]) -> Result<(Vec<(Vec<u8>, Vec<u8>)>, &[u8]), LineError>
+    ensures { Shortens line.now result }
 {
     let mut pairs = Vec::new(alloc);
     if let [b'}', after @ ..] = line {
@@ -191,43 +192,43 @@ fn text_pairs(alloc: Global, line: &[u8]) -> Result<(Vec<(Vec<u8>, Vec<u8>)>, &[
     let mut rest = line;
     loop {
         let (key, after) = text(alloc, rest)?;
-        let after = after_mark(after, b"=").ok_or(Fault::Mark('='))?;
+        let after = after_mark(after, b"=").ok_or(LineError::Mark('='))?;
         let (value, after) = text(alloc, after)?;
         pairs.push((key, value))?;
         match after {
             [b',', more @ ..] => rest = more,
             [b'}', more @ ..] => return Ok((pairs, more)),
-            _ => return Err(Fault::Value),
+            _ => return Err(LineError::Value),
         }
     }
 }
 
 // A list or a map at the front, and the rest.
 #[cycle(loose)]
-fn inside(alloc: Global, levels: u32, line: &[u8]) -> Result<(FieldValue, &[u8]), Fault>
-    ensures { IfOk result (λ x. length x.1.now < length line.now) }
+fn inside(alloc: Global, levels: u32, line: &[u8]) -> Result<(FieldValue, &[u8]), LineError>
+    ensures { Shortens line.now result }
 {
     if let Some(rest) = after_mark(line, b"List:[") {
         if levels == 0 {
-            return Err(Fault::Depth);
+            return Err(LineError::Depth);
         }
         let (items, rest) = items(alloc, levels - 1, rest)?;
         return Ok((FieldValue::List(items), rest));
     }
     if let Some(rest) = after_mark(line, b"Map:{") {
         if levels == 0 {
-            return Err(Fault::Depth);
+            return Err(LineError::Depth);
         }
         let (pairs, rest) = pairs(alloc, levels - 1, rest)?;
         return Ok((FieldValue::Map(pairs), rest));
     }
-    Err(Fault::Value)
+    Err(LineError::Value)
 }
 
 // The items of a list up to its closing bracket, and the rest.
 #[cycle(loose)]
-fn items(alloc: Global, levels: u32, line: &[u8]) -> Result<(Vec<FieldValue>, &[u8]), Fault>
-    ensures { IfOk result (λ x. length x.1.now < length line.now) }
+fn items(alloc: Global, levels: u32, line: &[u8]) -> Result<(Vec<FieldValue>, &[u8]), LineError>
+    ensures { Shortens line.now result }
 {
     let mut items = Vec::new(alloc);
     if let [b']', after @ ..] = line {
@@ -240,7 +241,7 @@ fn items(alloc: Global, levels: u32, line: &[u8]) -> Result<(Vec<FieldValue>, &[
         match after {
             [b',', more @ ..] => rest = more,
             [b']', more @ ..] => return Ok((items, more)),
-            _ => return Err(Fault::Value),
+            _ => return Err(LineError::Value),
         }
     }
 }
@@ -251,8 +252,8 @@ fn pairs(
     alloc: Global,
     levels: u32,
     line: &[u8],
-) -> Result<(Vec<(FieldValue, FieldValue)>, &[u8]), Fault>
-    ensures { IfOk result (λ x. length x.1.now < length line.now) }
+) -> Result<(Vec<(FieldValue, FieldValue)>, &[u8]), LineError>
+    ensures { Shortens line.now result }
 {
     let mut pairs = Vec::new(alloc);
     if let [b'}', after @ ..] = line {
@@ -261,13 +262,13 @@ fn pairs(
     let mut rest = line;
     loop {
         let (key, after) = value(alloc, levels, rest)?;
-        let after = after_mark(after, b"=").ok_or(Fault::Mark('='))?;
+        let after = after_mark(after, b"=").ok_or(LineError::Mark('='))?;
         let (value, after) = value(alloc, levels, after)?;
         pairs.push((key, value))?;
         match after {
             [b',', more @ ..] => rest = more,
             [b'}', more @ ..] => return Ok((pairs, more)),
-            _ => return Err(Fault::Value),
+            _ => return Err(LineError::Value),
         }
     }
 }

@@ -5,7 +5,7 @@ ghost use Rattle.std.specs.Prelude.{◌≡◌, ◌+◌, ◌<◌, ◌++◌, lengt
 ghost use Rattle.trace_values.specs.View.{view};
 ghost use Rattle.trace_lines.specs.Lines.{quoted, address_list, type_name, value_text};
 
-use crate::script::fault::Fault;
+use crate::script::line_error::LineError;
 use crate::script::loose;
 use std::alloc::Global;
 use trace_lines::text::{push_addresses, push_quoted};
@@ -13,7 +13,7 @@ use trace_lines::value::push_value;
 use trace_values::types::{FieldType, FieldValue};
 
 /// How many values a value of a script may have around it.
-pub const MOST_LEVELS: u32 = 100;
+pub const MAX_NESTING: u32 = 100;
 
 /// What stands after a mark, where the line begins with the mark.
 pub fn after_mark<'a>(line: &'a [u8], mark: &[u8]) -> Option<&'a [u8]>
@@ -24,59 +24,59 @@ pub fn after_mark<'a>(line: &'a [u8], mark: &[u8]) -> Option<&'a [u8]>
 }
 
 /// A number in decimal digits, and the rest.
-pub fn number_at(alloc: Global, line: &[u8]) -> Result<(u64, &[u8]), Fault>
+pub fn number_at(alloc: Global, line: &[u8]) -> Result<(u64, &[u8]), LineError>
     ensures { IfOk result (λ x. line.now ≡ decimal x.0 ++ x.1.now) }
 {
     let (number, _) = loose::number(line, 10);
     let shown = number.to_string(alloc)?;
-    let rest = after_mark(line, shown.as_bytes()).ok_or(Fault::Number)?;
+    let rest = after_mark(line, shown.as_bytes()).ok_or(LineError::Number)?;
     Ok((number, rest))
 }
 
 /// The bytes of a text in quotes, and the rest.
-pub fn text_at(alloc: Global, line: &[u8]) -> Result<(Vec<u8>, &[u8]), Fault>
+pub fn text_at(alloc: Global, line: &[u8]) -> Result<(Vec<u8>, &[u8]), LineError>
     ensures { IfOk result (λ x. line.now ≡ quoted x.0.items ++ x.1.now) }
 {
     let (bytes, _) = loose::text(alloc, line)?;
     let mut shown = String::new(alloc);
     push_quoted(&mut shown, &bytes)?;
-    let rest = after_mark(line, shown.as_bytes()).ok_or(Fault::Text)?;
+    let rest = after_mark(line, shown.as_bytes()).ok_or(LineError::Text)?;
     Ok((bytes, rest))
 }
 
 /// A text in quotes that is UTF-8, and the rest.
-pub fn name_at(alloc: Global, line: &[u8]) -> Result<(String, &[u8]), Fault>
+pub fn name_at(alloc: Global, line: &[u8]) -> Result<(String, &[u8]), LineError>
     ensures { IfOk result (λ x. line.now ≡ quoted (string_bytes x.0) ++ x.1.now) }
 {
     let (bytes, rest) = text_at(alloc, line)?;
-    let name = String::from_utf8(bytes).map_err(|_| Fault::Utf8)?;
+    let name = String::from_utf8(bytes).map_err(|_| LineError::Utf8)?;
     Ok((name, rest))
 }
 
 /// Addresses in brackets, and the rest.
-pub fn addresses_at(alloc: Global, line: &[u8]) -> Result<(Vec<u64>, &[u8]), Fault>
+pub fn addresses_at(alloc: Global, line: &[u8]) -> Result<(Vec<u64>, &[u8]), LineError>
     ensures { IfOk result (λ x. line.now ≡ address_list x.0.items ++ x.1.now) }
 {
     let (addresses, _) = loose::addresses(alloc, line)?;
     let mut shown = String::new(alloc);
     push_addresses(&mut shown, &addresses)?;
-    let rest = after_mark(line, shown.as_bytes()).ok_or(Fault::Addresses)?;
+    let rest = after_mark(line, shown.as_bytes()).ok_or(LineError::Addresses)?;
     Ok((addresses, rest))
 }
 
 /// A value as a dump shows it, and the rest.
-pub fn value_at(alloc: Global, line: &[u8]) -> Result<(FieldValue, &[u8]), Fault>
+pub fn value_at(alloc: Global, line: &[u8]) -> Result<(FieldValue, &[u8]), LineError>
     ensures { IfOk result (λ x. line.now ≡ value_text (view x.0) ++ x.1.now) }
 {
-    let (value, _) = loose::value(alloc, MOST_LEVELS, line)?;
+    let (value, _) = loose::value(alloc, MAX_NESTING, line)?;
     let mut shown = String::new(alloc);
     push_value(&mut shown, &value)?;
-    let rest = after_mark(line, shown.as_bytes()).ok_or(Fault::Value)?;
+    let rest = after_mark(line, shown.as_bytes()).ok_or(LineError::Value)?;
     Ok((value, rest))
 }
 
 /// The name of a field type, and the rest.
-pub fn type_at(line: &[u8]) -> Result<(FieldType, &[u8]), Fault>
+pub fn type_at(line: &[u8]) -> Result<(FieldType, &[u8]), LineError>
     ensures { IfOk result (λ x. line.now ≡ type_name x.0 ++ x.1.now) }
 {
     let end = line
@@ -84,8 +84,8 @@ pub fn type_at(line: &[u8]) -> Result<(FieldType, &[u8]), Fault>
         .position(|byte| !byte.is_ascii_alphanumeric())
         .unwrap_or(line.len());
     let (name, rest) = line.split_at(end);
-    let name = str::from_utf8(name).map_err(|_| Fault::FieldType)?;
-    let field_type = type_of(name).ok_or(Fault::FieldType)?;
+    let name = str::from_utf8(name).map_err(|_| LineError::FieldType)?;
+    let field_type = type_of(name).ok_or(LineError::FieldType)?;
     Ok((field_type, rest))
 }
 

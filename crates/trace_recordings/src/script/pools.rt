@@ -3,8 +3,9 @@
 ghost use Rattle.std.specs.Prelude.{◌≡◌, ◌<◌, ◌++◌, length, IfOk};
 ghost use Rattle.std.specs.List.{flat_map};
 ghost use Rattle.trace_recordings.specs.Pools.{id_text, pool_text_text, pool_stack_text};
+ghost use Rattle.trace_recordings.specs.Scripts.{Shortens};
 
-use crate::script::fault::Fault;
+use crate::script::line_error::LineError;
 use crate::script::parts::{addresses_at, after_mark, number_at, text_at};
 use std::alloc::Global;
 
@@ -23,7 +24,7 @@ pub struct PoolStack {
 }
 
 /// Entries of a string pool up to the end of the line.
-pub fn pool_texts(alloc: Global, line: &[u8]) -> Result<Vec<PoolText>, Fault>
+pub fn pool_texts(alloc: Global, line: &[u8]) -> Result<Vec<PoolText>, LineError>
     ensures { IfOk result (λ v. line.now ≡ flat_map pool_text_text v.items) }
 {
     let mut entries = Vec::new(alloc);
@@ -37,7 +38,7 @@ pub fn pool_texts(alloc: Global, line: &[u8]) -> Result<Vec<PoolText>, Fault>
 }
 
 /// Entries of a stack pool up to the end of the line.
-pub fn pool_stacks(alloc: Global, line: &[u8]) -> Result<Vec<PoolStack>, Fault>
+pub fn pool_stacks(alloc: Global, line: &[u8]) -> Result<Vec<PoolStack>, LineError>
     ensures { IfOk result (λ v. line.now ≡ flat_map pool_stack_text v.items) }
 {
     let mut entries = Vec::new(alloc);
@@ -52,9 +53,9 @@ pub fn pool_stacks(alloc: Global, line: &[u8]) -> Result<Vec<PoolStack>, Fault>
 
 // An entry of a string pool, and the rest.
 #[tactic(auto, unfolding(crate::specs::Pools::pool_text_text))]
-fn pool_text_at(alloc: Global, line: &[u8]) -> Result<(PoolText, &[u8]), Fault>
+fn pool_text_at(alloc: Global, line: &[u8]) -> Result<(PoolText, &[u8]), LineError>
     ensures text { IfOk result (λ x. line.now ≡ pool_text_text x.0 ++ x.1.now) }
-    ensures shorter { IfOk result (λ x. length x.1.now < length line.now) }
+    ensures shorter { Shortens line.now result }
 {
     let (id, rest) = id_at(alloc, line)?;
     let (bytes, rest) = text_at(alloc, rest)?;
@@ -63,9 +64,9 @@ fn pool_text_at(alloc: Global, line: &[u8]) -> Result<(PoolText, &[u8]), Fault>
 
 // An entry of a stack pool, and the rest.
 #[tactic(auto, unfolding(crate::specs::Pools::pool_stack_text))]
-fn pool_stack_at(alloc: Global, line: &[u8]) -> Result<(PoolStack, &[u8]), Fault>
+fn pool_stack_at(alloc: Global, line: &[u8]) -> Result<(PoolStack, &[u8]), LineError>
     ensures text { IfOk result (λ x. line.now ≡ pool_stack_text x.0 ++ x.1.now) }
-    ensures shorter { IfOk result (λ x. length x.1.now < length line.now) }
+    ensures shorter { Shortens line.now result }
 {
     let (id, rest) = id_at(alloc, line)?;
     let (frames, rest) = addresses_at(alloc, rest)?;
@@ -74,13 +75,13 @@ fn pool_stack_at(alloc: Global, line: &[u8]) -> Result<(PoolStack, &[u8]), Fault
 
 // A space, an id and a colon, and the rest.
 #[tactic(auto, unfolding(crate::specs::Pools::id_text))]
-fn id_at(alloc: Global, line: &[u8]) -> Result<(u32, &[u8]), Fault>
+fn id_at(alloc: Global, line: &[u8]) -> Result<(u32, &[u8]), LineError>
     ensures text { IfOk result (λ x. line.now ≡ id_text x.0 ++ x.1.now) }
-    ensures shorter { IfOk result (λ x. length x.1.now < length line.now) }
+    ensures shorter { Shortens line.now result }
 {
-    let rest = after_mark(line, b" ").ok_or(Fault::Mark(' '))?;
+    let rest = after_mark(line, b" ").ok_or(LineError::Mark(' '))?;
     let (id, rest) = number_at(alloc, rest)?;
-    let id = u32::try_from(id).map_err(|_| Fault::TooLarge)?;
-    let rest = after_mark(rest, b":").ok_or(Fault::Mark(':'))?;
+    let id = u32::try_from(id).map_err(|_| LineError::TooLarge)?;
+    let rest = after_mark(rest, b":").ok_or(LineError::Mark(':'))?;
     Ok((id, rest))
 }

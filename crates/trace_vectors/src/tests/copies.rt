@@ -59,7 +59,7 @@ fn copied_entry(rt: HostRuntime) -> Result<(), Fail> {
     let mut copy = entry.clone(rt.alloc())?;
     check_entry(&rt, &copy, 1);
     assert!(rt; copy == entry);
-    copy.append_annotations(rt.alloc(), &annotations)?;
+    copy.push_annotation_copies(rt.alloc(), &annotations)?;
     check_entry(&rt, &copy, 2);
     assert!(rt; copy != entry);
     Ok(())

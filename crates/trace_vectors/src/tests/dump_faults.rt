@@ -7,7 +7,7 @@ use std::alloc::Global;
 use std::io::ErrorKind;
 use std::process::Abort;
 use trace_lines::dump::{FAILED, NO_HEADER, STOPPED, WHOLE, dump};
-use trace_samples::{Script, Told};
+use trace_samples::{Manner, Told};
 
 /// The lines of one event.
 const LINES: &str =
@@ -23,7 +23,7 @@ fn lines_of(resolve: bool) -> &'static str {
 }
 
 /// The dump of one event stops where the writer fails, is not tried again, and does not settle.
-fn check_stopped(rt: &impl Abort, alloc: Global, script: Script, resolve: bool) {
+fn check_stopped(rt: &impl Abort, alloc: Global, manner: Manner, resolve: bool) {
     let mut told = Told::new(script);
     assert_eq!(rt; dump(alloc, &ONE_EVENT, &mut told, resolve), FAILED);
     let lines = lines_of(resolve).as_bytes();

@@ -1,6 +1,6 @@
 //! Fields compiled into steps.
 
-use dial9_trace_format::codec::{Step, compile};
+use dial9_trace_format::codec::{FieldStep, compile};
 use dial9_trace_format::schema::FieldDef;
 use dial9_trace_format::types::FieldType;
 use std::alloc::{AllocError, Global};
@@ -21,7 +21,7 @@ fn check_steps(
     rt: &impl Abort,
     alloc: Global,
     types: &[FieldType],
-    steps: &[Step],
+    steps: &[FieldStep],
 ) -> Result<(), Fail> {
     let fields = fields_of(alloc, types)?;
     let layout = compile(alloc, &fields)?;
@@ -41,19 +41,19 @@ fn runs_between_fields_of_open_width(rt: HostRuntime) -> Result<(), Fail> {
         FieldType::U32,
     ];
     let steps = [
-        Step::Run {
+        FieldStep::Fixed {
             first: 0,
             count: 2,
             width: 9,
         },
-        Step::Walk { field: 2 },
-        Step::Run {
+        FieldStep::Walk { field: 2 },
+        FieldStep::Fixed {
             first: 3,
             count: 1,
             width: 2,
         },
-        Step::Walk { field: 4 },
-        Step::Run {
+        FieldStep::Walk { field: 4 },
+        FieldStep::Fixed {
             first: 5,
             count: 2,
             width: 8,

@@ -8,7 +8,7 @@ use dial9_trace_format::leb128::{EncodeError, Faults, TraceWrite};
 use std::alloc::Global;
 use std::io;
 use std::process::Abort;
-use trace_samples::{Script, Told};
+use trace_samples::{Manner, Told};
 
 /// The header of a trace.
 const HEADER: [u8; 5] = [0x54, 0x52, 0x43, 0x00, 0x01];
@@ -30,7 +30,7 @@ impl<'a> TraceWrite for Lent<'a> {
 }
 
 /// No encoder is made, by the fault of the writer.
-fn check_refused(rt: &impl Abort, alloc: Global, told: &mut Told, script: Script) {
+fn check_refused(rt: &impl Abort, alloc: Global, told: &mut Told, manner: Manner) {
     match Encoder::new_to(alloc, Lent(told)) {
         Ok(_) => assert!(rt; false, "no fault"),
         Err(e) => assert_eq!(rt; e, EncodeError::Writer(kind_of(script))),
@@ -38,7 +38,7 @@ fn check_refused(rt: &impl Abort, alloc: Global, told: &mut Told, script: Script
 }
 
 /// The header went out to where the writer failed, and was not tried again.
-fn check_dropped(rt: &impl Abort, alloc: Global, script: Script) {
+fn check_dropped(rt: &impl Abort, alloc: Global, manner: Manner) {
     let mut told = Told::new(script);
     check_refused(rt, alloc, &mut told, script);
     let sent = HEADER.get(..script.place).unwrap_or(&[]);

@@ -7,7 +7,7 @@ use std::alloc::Global;
 use std::io::ErrorKind;
 use std::process::Abort;
 use std::test::Fail;
-use trace_samples::{Script, Told};
+use trace_samples::{Manner, Told};
 use trace_values::leb128::send_bytes;
 
 /// A call that sends to a writer.
@@ -59,7 +59,7 @@ fn make(rt: &impl Abort, alloc: Global, told: &mut Told, work: Work) -> Result<(
 }
 
 /// The call stops where the writer fails, and answers its fault. It is not tried again.
-fn check_stopped(rt: &impl Abort, alloc: Global, work: Work, script: Script) -> Told {
+fn check_stopped(rt: &impl Abort, alloc: Global, work: Work, manner: Manner) -> Told {
     let mut told = Told::new(script);
     let kind = kind_of(script);
     let answer = make(rt, alloc, &mut told, work);
@@ -70,7 +70,7 @@ fn check_stopped(rt: &impl Abort, alloc: Global, work: Work, script: Script) -> 
 }
 
 /// The same call made again stops at the same place: the writer then tells more faults.
-fn check_stopped_again(rt: &impl Abort, alloc: Global, work: Work, script: Script) {
+fn check_stopped_again(rt: &impl Abort, alloc: Global, work: Work, manner: Manner) {
     let mut told = check_stopped(rt, alloc, work, script);
     let answer = make(rt, alloc, &mut told, work);
     assert_eq!(rt; answer, Err(EncodeError::Writer(kind_of(script))));
@@ -79,7 +79,7 @@ fn check_stopped_again(rt: &impl Abort, alloc: Global, work: Work, script: Scrip
 }
 
 /// The same call made again sends all, where the writer failed once.
-fn check_sent_again(rt: &impl Abort, alloc: Global, work: Work, script: Script) {
+fn check_sent_again(rt: &impl Abort, alloc: Global, work: Work, manner: Manner) {
     let mut told = check_stopped(rt, alloc, work, once(script));
     let answer = make(rt, alloc, &mut told, work);
     assert_eq!(rt; answer, Ok(()));

@@ -3,7 +3,7 @@
 use dial9_trace_format::leb128::Faults;
 use std::io::ErrorKind;
 use std::process::Abort;
-use trace_samples::{Failing, Refusal, Script, Told};
+use trace_samples::{Failing, Refusal, Manner, Told};
 
 /// Ways to fail: an error, an interrupted write, and the answer 0.
 pub const KINDS: [Refusal; 3] = [
@@ -13,16 +13,16 @@ pub const KINDS: [Refusal; 3] = [
 ];
 
 /// Takes so many bytes at a time, and never fails.
-pub fn stepping(step: usize) -> Script {
-    Script {
+pub fn stepping(step: usize) -> Manner {
+    Manner {
         step,
-        ..Script::SOUND
+        ..Manner::SOUND
     }
 }
 
 /// Takes so many bytes at a time, and fails so at this place.
-pub fn breaking(step: usize, place: usize, refusal: Refusal) -> Script {
-    Script {
+pub fn breaking(step: usize, place: usize, refusal: Refusal) -> Manner {
+    Manner {
         step,
         place,
         failing: Failing::Always(refusal),
@@ -31,23 +31,23 @@ pub fn breaking(step: usize, place: usize, refusal: Refusal) -> Script {
 }
 
 /// The same, but failing once.
-pub fn once(script: Script) -> Script {
-    Script {
+pub fn once(manner: Manner) -> Manner {
+    Manner {
         failing: Failing::Once(script.failing.next_refusal()),
         ..script
     }
 }
 
 /// Fails to settle alone, by this kind of error.
-pub fn unsettling(kind: ErrorKind) -> Script {
-    Script {
+pub fn unsettling(kind: ErrorKind) -> Manner {
+    Manner {
         settling: Some(kind),
-        ..Script::SOUND
+        ..Manner::SOUND
     }
 }
 
 /// The kind of the fault by which `send` fails.
-pub fn kind_of(script: Script) -> ErrorKind {
+pub fn kind_of(manner: Manner) -> ErrorKind {
     match script.failing.next_refusal() {
         Refusal::Zero => ErrorKind::WriteZero,
         Refusal::Error(kind) => kind,

@@ -10,7 +10,7 @@ use std::alloc::Global;
 use std::io::ErrorKind;
 use std::process::Abort;
 use std::test::Fail;
-use trace_samples::{Refusal, Script, Told};
+use trace_samples::{Refusal, Manner, Told};
 
 /// Header, and the pool frame of `hello` under 0.
 const TEXT: [u8; 23] = [
@@ -154,7 +154,7 @@ fn check_stopped(
     alloc: Global,
     encoder: &mut Encoder<Told>,
     work: Work,
-    script: Script,
+    manner: Manner,
 ) {
     let kind = kind_of(script);
     let answer = make(alloc, encoder, work);
@@ -164,7 +164,7 @@ fn check_stopped(
 }
 
 /// The call over a writer of this script, on a new encoder.
-fn check_work(rt: &impl Abort, alloc: Global, work: Work, script: Script) {
+fn check_work(rt: &impl Abort, alloc: Global, work: Work, manner: Manner) {
     match Encoder::new_to(alloc, Told::new(script)) {
         Err(fault) => {
             assert!(rt; script.place < 5);

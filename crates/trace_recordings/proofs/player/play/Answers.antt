@@ -1,6 +1,6 @@
 use Rattle.std.proofs.Common.{rules, ◌≡◌, ◌+◌, ◌∷◌, ◌++◌, ap, sym, subst, string_bytes, List, take, arith, [], ◌∙◌}
 use Rattle.std.proofs.lemmas.List.{take_more, take_all}
-use Rattle.trace_recordings.specs.declared.script.call.Call.{Call}
+use Rattle.trace_recordings.specs.declared.script.call.ScriptCall.{ScriptCall}
 use Rattle.trace_recordings.specs.Playing.{TurnsEach, playing_of, start}
 use Rattle.trace_recordings.proofs.PlayingLemmas.{TurnsEach-append, written_by}
 use Rattle.std.specs.List.{AllByRecursion}
@@ -19,7 +19,7 @@ loop-before-preserved c =
 pub returns-clause-played : goal.returns-clause-played
 returns-clause-played c =
     let all : take c.loop-before.before c.deref-call-items.result.now ≡ c.deref-call-items.result.now = take_all c.loop-before.before c.deref-call-items.result.now (omega (arith, c.loop-before-test.false)) in
-    let played = subst (λ (calls : List Call). TurnsEach start calls (playing_of c.loop-before.player)) (all ∙ c.deref-call-items.ensures.value) c.loop-before.invariant in
+    let played = subst (λ (calls : List ScriptCall). TurnsEach start calls (playing_of c.loop-before.player)) (all ∙ c.deref-call-items.ensures.value) c.loop-before.invariant in
     record {
       calls = c.in_ok-script.script.items;
       script = c.in_ok-script.ensures.read;
@@ -34,8 +34,8 @@ pub returns-in_err-make-clause-refused : goal.returns-in_err-make-clause-refused
 returns-in_err-make-clause-refused c =
     let calls = c.deref-call-items.result.now in
     let same = sym c.deref-call-items.ensures.value in
-    let script = subst (λ (x : List Call). IsScript x c.args.text.now) same c.in_ok-script.ensures.read in
-    let had = subst (λ (x : List Call). AllByRecursion IsHad x) (c.deref.ensures.value ∙ same) c.in_ok-admit.ensures.admitted in
+    let script = subst (λ (x : List ScriptCall). IsScript x c.args.text.now) same c.in_ok-script.ensures.read in
+    let had = subst (λ (x : List ScriptCall). AllByRecursion IsHad x) (c.deref.ensures.value ∙ same) c.in_ok-admit.ensures.admitted in
     let refused : RefusesScript c.args.text.now c.in_err-make.field-0.0 =
     not_made c.args.text.now calls c.loop-before.before c.saturating_add.result c.call-item.result (playing_of c.loop-before.player) c.in_err-make.field-0.0 script had (omega arith) c.call-item.is c.loop-before.invariant c.saturating_add.ensures c.in_err-make.ensures.refused in
     search rules

@@ -90,7 +90,7 @@ fn check_entry(rt: &impl Abort, alloc: Global, count: usize, notes: usize) -> Re
     assert_eq!(rt; entry.annotations().len(), notes);
     let copy = entry.clone(alloc)?;
     assert!(rt; copy == entry);
-    entry.append_annotations(alloc, copy.annotations())?;
+    entry.push_annotation_copies(alloc, copy.annotations())?;
     let schema = Schema::from_entry(alloc, copy)?;
     assert_eq!(rt; schema.fields().len(), count);
     Ok(())

@@ -1,5 +1,5 @@
 use Rattle.std.proofs.Common.{rules, ◌≡◌}
-use Rattle.trace_recordings.specs.declared.script.call.Call.TheVariants.{DefineType, Reset, Resume}
+use Rattle.trace_recordings.specs.declared.script.call.ScriptCall.TheVariants.{DefineType, Reset, Resume}
 use Rattle.trace_recordings.proofs.PlayingLemmas.{asked_turn, reset_turn, resume_turn, type_turn}
 use Rattle.trace_recordings.specs.Playing.{playing_of}
 use Rattle.trace_recordings.proofs.RefusalLemmas.{no_memory_in}
