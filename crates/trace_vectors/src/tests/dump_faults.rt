@@ -24,11 +24,11 @@ fn lines_of(resolve: bool) -> &'static str {
 
 /// The dump of one event stops where the writer fails, is not tried again, and does not settle.
 fn check_stopped(rt: &impl Abort, alloc: Global, manner: Manner, resolve: bool) {
-    let mut told = Told::new(script);
+    let mut told = Told::new(manner);
     assert_eq!(rt; dump(alloc, &ONE_EVENT, &mut told, resolve), FAILED);
     let lines = lines_of(resolve).as_bytes();
-    let lines = lines.get(..script.place).unwrap_or(&[]);
-    let faults = Faults::OneFault(kind_of(script));
+    let lines = lines.get(..manner.place).unwrap_or(&[]);
+    let faults = Faults::OneFault(kind_of(manner));
     check_told(rt, &told, lines, faults, lines.is_empty());
 }
 

@@ -33,20 +33,20 @@ impl<'a> TraceWrite for Lent<'a> {
 fn check_refused(rt: &impl Abort, alloc: Global, told: &mut Told, manner: Manner) {
     match Encoder::new_to(alloc, Lent(told)) {
         Ok(_) => assert!(rt; false, "no fault"),
-        Err(e) => assert_eq!(rt; e, EncodeError::Writer(kind_of(script))),
+        Err(e) => assert_eq!(rt; e, EncodeError::Writer(kind_of(manner))),
     }
 }
 
 /// The header went out to where the writer failed, and was not tried again.
 fn check_dropped(rt: &impl Abort, alloc: Global, manner: Manner) {
-    let mut told = Told::new(script);
-    check_refused(rt, alloc, &mut told, script);
-    let sent = HEADER.get(..script.place).unwrap_or(&[]);
+    let mut told = Told::new(manner);
+    check_refused(rt, alloc, &mut told, manner);
+    let sent = HEADER.get(..manner.place).unwrap_or(&[]);
     check_told(
         rt,
         &told,
         sent,
-        Faults::OneFault(kind_of(script)),
+        Faults::OneFault(kind_of(manner)),
         sent.is_empty(),
     );
 }

@@ -107,8 +107,8 @@ fn goes_on_after_readers_in_turn(rt: HostRuntime) -> Result<(), Fail> {
 #[test]
 fn goes_on_after_a_torn_trace(rt: HostRuntime) -> Result<(), Fail> {
     let schema = ev(rt.alloc())?;
-    let script = breaking(3, 22, Refusal::Error(ErrorKind::BrokenPipe));
-    let mut broken = Encoder::new_to(rt.alloc(), Told::new(script))?;
+    let manner = breaking(3, 22, Refusal::Error(ErrorKind::BrokenPipe));
+    let mut broken = Encoder::new_to(rt.alloc(), Told::new(manner))?;
     let fault = Err(EncodeError::Writer(ErrorKind::BrokenPipe));
     assert_eq!(rt;
         broken.write_event(&schema, 1_000, &[FieldValue::Varint(42)]),
@@ -130,8 +130,8 @@ fn goes_on_after_a_torn_trace(rt: HostRuntime) -> Result<(), Fail> {
 #[test]
 fn a_failed_encoder_begins_anew(rt: HostRuntime) -> Result<(), Fail> {
     let schema = ev(rt.alloc())?;
-    let script = breaking(3, 8, Refusal::Error(ErrorKind::BrokenPipe));
-    let mut encoder = Encoder::new_to(rt.alloc(), Told::new(script))?;
+    let manner = breaking(3, 8, Refusal::Error(ErrorKind::BrokenPipe));
+    let mut encoder = Encoder::new_to(rt.alloc(), Told::new(manner))?;
     let fault = Err(EncodeError::Writer(ErrorKind::BrokenPipe));
     assert_eq!(rt; encoder.register_existing(&schema), fault);
     assert_eq!(rt; encoder.flush(), Err(EncodeError::Failed));
@@ -146,9 +146,9 @@ fn a_failed_encoder_begins_anew(rt: HostRuntime) -> Result<(), Fail> {
 
 #[test]
 fn a_new_writer_that_fails_changes_nothing(rt: HostRuntime) -> Result<(), Fail> {
-    let script = breaking(3, 3, Refusal::Zero);
+    let manner = breaking(3, 3, Refusal::Zero);
     let mut encoder = Encoder::new_to(rt.alloc(), Told::new(stepping(1_024)))?;
-    let refused = encoder.reset_to(Told::new(script)).err();
+    let refused = encoder.reset_to(Told::new(manner)).err();
     assert_eq!(rt; refused, Some(EncodeError::Writer(ErrorKind::WriteZero)));
     encoder.write_event(&ev(rt.alloc())?, 1_000, &[FieldValue::Varint(42)])?;
     let mut raw = encoder.into_raw_encoder();

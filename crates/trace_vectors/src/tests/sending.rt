@@ -60,36 +60,36 @@ fn make(rt: &impl Abort, alloc: Global, told: &mut Told, work: Work) -> Result<(
 
 /// The call stops where the writer fails, and answers its fault. It is not tried again.
 fn check_stopped(rt: &impl Abort, alloc: Global, work: Work, manner: Manner) -> Told {
-    let mut told = Told::new(script);
-    let kind = kind_of(script);
+    let mut told = Told::new(manner);
+    let kind = kind_of(manner);
     let answer = make(rt, alloc, &mut told, work);
     assert_eq!(rt; answer, Err(EncodeError::Writer(kind)));
-    let sent = bytes_of(work).get(..script.place).unwrap_or(&[]);
+    let sent = bytes_of(work).get(..manner.place).unwrap_or(&[]);
     check_told(rt, &told, sent, Faults::OneFault(kind), sent.is_empty());
     told
 }
 
 /// The same call made again stops at the same place: the writer then tells more faults.
 fn check_stopped_again(rt: &impl Abort, alloc: Global, work: Work, manner: Manner) {
-    let mut told = check_stopped(rt, alloc, work, script);
+    let mut told = check_stopped(rt, alloc, work, manner);
     let answer = make(rt, alloc, &mut told, work);
-    assert_eq!(rt; answer, Err(EncodeError::Writer(kind_of(script))));
-    let sent = bytes_of(work).get(..script.place).unwrap_or(&[]);
+    assert_eq!(rt; answer, Err(EncodeError::Writer(kind_of(manner))));
+    let sent = bytes_of(work).get(..manner.place).unwrap_or(&[]);
     check_told(rt, &told, sent, Faults::MoreFaults, sent.is_empty());
 }
 
 /// The same call made again sends all, where the writer failed once.
 fn check_sent_again(rt: &impl Abort, alloc: Global, work: Work, manner: Manner) {
-    let mut told = check_stopped(rt, alloc, work, once(script));
+    let mut told = check_stopped(rt, alloc, work, once(manner));
     let answer = make(rt, alloc, &mut told, work);
     assert_eq!(rt; answer, Ok(()));
     let (front, again) = told
         .bytes()
-        .split_at_checked(script.place)
+        .split_at_checked(manner.place)
         .unwrap_or((&[], &[]));
-    assert_eq!(rt; Some(front), bytes_of(work).get(..script.place));
+    assert_eq!(rt; Some(front), bytes_of(work).get(..manner.place));
     assert_eq!(rt; again, bytes_of(work));
-    assert_eq!(rt; told.faults(), Faults::OneFault(kind_of(script)));
+    assert_eq!(rt; told.faults(), Faults::OneFault(kind_of(manner)));
     assert!(rt; !told.is_settled());
 }
 

@@ -33,8 +33,8 @@ pub fn breaking(step: usize, place: usize, refusal: Refusal) -> Manner {
 /// The same, but failing once.
 pub fn once(manner: Manner) -> Manner {
     Manner {
-        failing: Failing::Once(script.failing.next_refusal()),
-        ..script
+        failing: Failing::Once(manner.failing.next_refusal()),
+        ..manner
     }
 }
 
@@ -48,7 +48,7 @@ pub fn unsettling(kind: ErrorKind) -> Manner {
 
 /// The kind of the fault by which `send` fails.
 pub fn kind_of(manner: Manner) -> ErrorKind {
-    match script.failing.next_refusal() {
+    match manner.failing.next_refusal() {
         Refusal::Zero => ErrorKind::WriteZero,
         Refusal::Error(kind) => kind,
     }

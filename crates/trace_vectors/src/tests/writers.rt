@@ -156,23 +156,23 @@ fn check_stopped(
     work: Work,
     manner: Manner,
 ) {
-    let kind = kind_of(script);
+    let kind = kind_of(manner);
     let answer = make(alloc, encoder, work);
     assert_eq!(rt; answer, Err(EncodeError::Writer(kind)));
-    let sent = trace_of(work).get(..script.place).unwrap_or(&[]);
+    let sent = trace_of(work).get(..manner.place).unwrap_or(&[]);
     check_failed(rt, alloc, encoder, sent, kind);
 }
 
-/// The call over a writer of this script, on a new encoder.
+/// The call over a writer of this manner, on a new encoder.
 fn check_work(rt: &impl Abort, alloc: Global, work: Work, manner: Manner) {
-    match Encoder::new_to(alloc, Told::new(script)) {
+    match Encoder::new_to(alloc, Told::new(manner)) {
         Err(fault) => {
-            assert!(rt; script.place < 5);
-            assert_eq!(rt; fault, EncodeError::Writer(kind_of(script)));
+            assert!(rt; manner.place < 5);
+            assert_eq!(rt; fault, EncodeError::Writer(kind_of(manner)));
         }
         Ok(mut encoder) => {
-            assert!(rt; script.place >= 5);
-            check_stopped(rt, alloc, &mut encoder, work, script);
+            assert!(rt; manner.place >= 5);
+            check_stopped(rt, alloc, &mut encoder, work, manner);
         }
     }
 }
@@ -216,8 +216,8 @@ fn each_call_sends_all_in_any_steps(rt: HostRuntime) -> Result<(), Fail> {
 
 #[test]
 fn writer_fails_after_eight_bytes(rt: HostRuntime) -> Result<(), Fail> {
-    let script = breaking(3, 8, Refusal::Error(ErrorKind::BrokenPipe));
-    let mut encoder = Encoder::new_to(rt.alloc(), Told::new(script))?;
+    let manner = breaking(3, 8, Refusal::Error(ErrorKind::BrokenPipe));
+    let mut encoder = Encoder::new_to(rt.alloc(), Told::new(manner))?;
     let answer = make(rt.alloc(), &mut encoder, Work::RegisterExisting);
     assert_eq!(rt; answer, Err(EncodeError::Writer(ErrorKind::BrokenPipe)));
     assert_eq!(rt; encoder.bytes_written(), 8);
