@@ -6,6 +6,7 @@ use Rattle.std.specs.List.{AllByRecursion}
 use Rattle.trace_values.specs.declared.leb128.error.EncodeError.{EncodeError}
 use Rattle.trace_values.specs.declared.leb128.error.EncodeError.TheVariants as errors
 use Rattle.trace_values.specs.Values.{owned_reader}
+use Rattle.trace_values.proofs.OptionsAndBytes.{none_some}
 use Rattle.trace_wire.specs.Runs.{Item}
 use Rattle.trace_writer.specs.declared.encoder.call.Reply.{Reply}
 use Rattle.trace_writer.specs.State.{EncoderView, WriterState}
@@ -26,25 +27,22 @@ use Rattle.trace_recordings.specs.declared.typed.Sample.{Sample}
 use Rattle.trace_wire.specs.Schemas.{Entry}
 use Rattle.trace_recordings.specs.Playing.{AnswersResumption, DefinesType, HasReadAll, RefusesResumption, Playing, with_reply, with_type, start, Asks, Resets, Resumes, IsAsked, IsOfEncoder, IsWritten, Turns, TurnsEach}
 
-no_action : (a : Action) → None ≡ Some a → ⊥
-no_action a e = cc
-
 -- where the encoder was asked, this is the turn of the call
 turns_asked : (p : Playing) (call : ScriptCall) (q : Playing) → IsAsked p call q → Turns p call q
-turns_asked p Nothing q h = absurd (no_action h.2.action h.2.asked)
-turns_asked p (Define handle definition) q h = absurd (no_action h.2.action h.2.asked)
+turns_asked p Nothing q h = absurd (none_some h.2.action h.2.asked)
+turns_asked p (Define handle definition) q h = absurd (none_some h.2.action h.2.asked)
 turns_asked p (Register handle) q h = h
 turns_asked p (Event handle time values) q h = h
-turns_asked p (DefineType handle slot definition) q h = absurd (no_action h.2.action h.2.asked)
+turns_asked p (DefineType handle slot definition) q h = absurd (none_some h.2.action h.2.asked)
 turns_asked p (WriteTyped handle time values) q h = h
 turns_asked p (InternString text) q h = h
 turns_asked p (InternStack frames) q h = h
 turns_asked p (StringPool entries) q h = h
 turns_asked p (StackPool entries) q h = h
-turns_asked p Reset q h = absurd (no_action h.2.action h.2.asked)
-turns_asked p Resume q h = absurd (no_action h.2.action h.2.asked)
-turns_asked p (Raw bytes) q h = absurd (no_action h.2.action h.2.asked)
-turns_asked p Bare q h = absurd (no_action h.2.action h.2.asked)
+turns_asked p Reset q h = absurd (none_some h.2.action h.2.asked)
+turns_asked p Resume q h = absurd (none_some h.2.action h.2.asked)
+turns_asked p (Raw bytes) q h = absurd (none_some h.2.action h.2.asked)
+turns_asked p Bare q h = absurd (none_some h.2.action h.2.asked)
 
 -- the encoder was asked, and then its reply replied, where that was done
 pub asked_turn : (r : Result (Unit {0}) PlayError) (p : Playing) (call : ScriptCall) (reply : Reply) (mid q : Playing) → Asks p call reply mid → OnOk r (q ≡ with_reply (Replied reply) mid) → OnOk r (Turns p call q)

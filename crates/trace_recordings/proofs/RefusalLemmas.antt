@@ -6,6 +6,7 @@ use Rattle.trace_recordings.specs.declared.player.PlayError.{PlayError}
 use Rattle.trace_recordings.specs.declared.player.PlayError.TheVariants as plays
 use Rattle.std.specs.declared.alloc.Global.{Global}
 use Rattle.trace_values.specs.declared.types.field_value.FieldValue.{FieldValue}
+use Rattle.trace_values.proofs.OptionsAndBytes.{all_append}
 use Rattle.trace_recordings.specs.declared.script.definitions.Definition.{Definition}
 use Rattle.trace_recordings.specs.declared.script.call.ScriptCall.{ScriptCall}
 use Rattle.trace_recordings.specs.declared.script.call.ScriptCall.TheVariants.{DefineType, WriteTyped, Resume}
@@ -15,12 +16,8 @@ use Rattle.trace_recordings.specs.Scripts.{IsScript, word_of}
 use Rattle.trace_recordings.specs.Tallies.{counted_up}
 
 -- one more that the library has
-had_last : (calls : List ScriptCall) (call : ScriptCall) → AllByRecursion IsHad calls → misses call ≡ false → AllByRecursion IsHad (calls ++ call ∷ [])
-had_last [] call all had = (had, tt)
-had_last (c ∷ calls) call all had = (all.0, had_last calls call all.1 had)
-
 pub had_more : (calls : List ScriptCall) (i : ℕ) (call : ScriptCall) → i < length calls → call ≡ get_or calls i call → AllByRecursion IsHad (take i calls) → misses call ≡ false → AllByRecursion IsHad (take (i + 1) calls)
-had_more calls i call inside is all had = rw (take_more calls i call inside, ← is) (had_last (take i calls) call all had)
+had_more calls i call inside is all had = rw (take_more calls i call inside, ← is) (all_append IsHad (take i calls) (call ∷ []) all (had, tt))
 
 -- each of those that the library has
 had_at : (calls : List ScriptCall) (i : ℕ) (call : ScriptCall) → i < length calls → call ≡ get_or calls i call → AllByRecursion IsHad calls → misses call ≡ false
