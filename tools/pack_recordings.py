@@ -8,6 +8,8 @@ Run once for each set, by hand; the gate does not run it:
     python3 tools/pack_recordings.py model crates/trace_replay/data/model.txt RECORDINGS/model/public
     python3 tools/pack_recordings.py types crates/trace_replay/data/types.txt RECORDINGS/types RECORDINGS/types/model
 
+The recordings at the end of model.txt whose name begins with `worked-` are kept by hand: what is packed stands before them.
+
 A folder of recordings has NAME.bin (the bytes of a trace), NAME.txt (its dump), NAME.script where the trace was made by
 calls, and EXTRA.txt, whose parts under `## NAME` are `# replies`, the reply to each call; `# resolve STATUS`, the dump with
 resolved events; `# sink STATUS`, what a sink was given; and `# borrowed STATUS`, the dump of the borrowed reader, where it is
@@ -20,7 +22,7 @@ import sys
 ABOUT = {
     "public": "Traces that the crate dial9-trace-format 0.5.4 wrote, by calls on which it and this library agree.",
     "malformed": "Damaged traces: one that was written whole, and then cut or changed. They have no script.",
-    "model": "Traces of an independent model of this library's rules, where the crate dial9-trace-format has others.",
+    "model": "Traces of an independent model of this library's rules, where the crate dial9-trace-format has others; and, named `worked-`, by hand.",
     "types": "Traces of event types that trace_samples has. Those whose name begins with `port-` are of the model, the others of the crate.",
 }
 
@@ -62,11 +64,18 @@ def packed_folder(folder):
     return "".join(packed(folder, name, extra[name]) for name in names)
 
 
+def worked(target):
+    """The recordings at the end of a file that are kept by hand."""
+    text = target.read_text("ascii") if target.exists() else ""
+    at = text.find("== worked-")
+    return "" if at < 0 else text[at:]
+
+
 def main():
     kind, target, folders = sys.argv[1], pathlib.Path(sys.argv[2]), [pathlib.Path(it) for it in sys.argv[3:]]
     head = f"# {ABOUT[kind]}\n# The format of this file is told in docs/RECORDINGS.md.\n\n"
     target.parent.mkdir(parents=True, exist_ok=True)
-    target.write_text(head + "".join(packed_folder(folder) for folder in folders), "ascii")
+    target.write_text(head + "".join(packed_folder(folder) for folder in folders) + worked(target), "ascii")
 
 
 main()

@@ -1,7 +1,7 @@
 //! What a decoder gives of frames whose values stay in the input, and what its iterators give.
 
 use crate::tests::calls::{decoder_of, next, next_one};
-use crate::tests::traces::{ONE_EVENT, OTHER_EV, joined};
+use crate::tests::traces::{CONFLICT, ONE_EVENT};
 use dial9_trace_format::codec::{PoolEntryRef, StackPoolEntryRef, WireTypeId};
 use dial9_trace_format::decoder::{DecodeError, DecodeErrorKind, DecodedFrameRef, Decoder};
 use dial9_trace_format::types::FieldValueRef;
@@ -66,8 +66,7 @@ fn check_conflict_told(rt: &impl Abort, decoder: &mut Decoder<'_>) {
 
 #[test]
 fn conflict_is_told_once(rt: HostRuntime) -> Result<(), Fail> {
-    let bytes = joined(rt.alloc(), &ONE_EVENT, &OTHER_EV)?;
-    let mut decoder = decoder_of(rt.alloc(), &bytes)?;
+    let mut decoder = decoder_of(rt.alloc(), &CONFLICT)?;
     assert!(rt; next_ref(&mut decoder)?.is_some());
     next_one(&mut decoder)?;
     check_conflict_told(&rt, &mut decoder);

@@ -3,7 +3,7 @@
 use dial9_trace_format::TraceEvent;
 use dial9_trace_format::codec::{PoolEntry, StackPoolEntry, WireTypeId};
 use dial9_trace_format::decoder::{DecodedFrame, Decoder};
-use dial9_trace_format::encoder::{Call, Encoder, RawEncoder, Reply, Schema, run_calls};
+use dial9_trace_format::encoder::{Call, Encoder, Reply, Schema, run_calls};
 use dial9_trace_format::leb128::EncodeError;
 use dial9_trace_format::schema::FieldDef;
 use dial9_trace_format::types::{FieldValue, InternedStackFrames, InternedString};
@@ -18,16 +18,6 @@ pub fn fresh(alloc: Global) -> Result<Encoder, EncodeError> {
 /// `Encoder::reset_to`, of a new vector.
 pub fn reset(alloc: Global, encoder: &mut Encoder) -> Result<Vec<u8>, EncodeError> {
     encoder.reset_to(Vec::new(alloc))
-}
-
-/// `Encoder::into_raw_encoder`.
-pub fn into_raw(encoder: Encoder) -> RawEncoder {
-    encoder.into_raw_encoder()
-}
-
-/// `RawEncoder::write_raw`.
-pub fn put_raw(encoder: &mut RawEncoder, bytes: &[u8]) -> Result<(), EncodeError> {
-    encoder.write_raw(bytes)
 }
 
 /// `Encoder::intern_string`.
@@ -97,11 +87,6 @@ pub fn run(alloc: Global, encoder: &mut Encoder, calls: &[Call]) -> Result<Vec<R
     run_calls(alloc, encoder, calls)
 }
 
-/// Whether `Decoder::new` finds a header.
-pub fn has_header(alloc: Global, bytes: &[u8]) -> bool {
-    Decoder::new(alloc, bytes).is_some()
-}
-
 /// `Decoder::new`, of bytes that begin with a header.
 pub fn decoder_of(alloc: Global, bytes: &[u8]) -> Result<Decoder<'_>, Fail> {
     Ok(Decoder::new(alloc, bytes).ok_or("no header")?)
@@ -131,11 +116,4 @@ pub fn all_of(alloc: Global, bytes: &[u8]) -> Result<Vec<DecodedFrame>, Fail> {
 /// `Decoder::into_encoder`, over a new vector.
 pub fn into_encoder(alloc: Global, decoder: Decoder<'_>) -> Result<Encoder, EncodeError> {
     decoder.into_encoder(Vec::new(alloc))
-}
-
-/// The same of a decoder that has read all.
-pub fn resumed(alloc: Global, bytes: &[u8]) -> Result<Encoder, Fail> {
-    let mut decoder = decoder_of(alloc, bytes)?;
-    let _frames = all(&mut decoder)?;
-    Ok(into_encoder(alloc, decoder)?)
 }

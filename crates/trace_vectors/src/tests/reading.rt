@@ -1,13 +1,24 @@
 //! What a decoder gives.
 
-use crate::tests::calls::{all, all_of, decoder_of, has_header, next_one};
-use crate::tests::checks::{check_all, check_end, check_ev, check_event};
-use crate::tests::traces::{EV_SCHEMA, HEADER, ONE_EVENT, OTHER_EV, joined, written};
+use crate::tests::calls::{all, all_of, decoder_of, next_one};
+use crate::tests::checks::{check_all, check_end, check_place};
+use crate::tests::traces::{CONFLICT, HEADER};
 use dial9_trace_format::codec::WireTypeId;
-use dial9_trace_format::decoder::{DecodeErrorKind, Decoder};
+use dial9_trace_format::decoder::{DecodeErrorKind, DecodedFrame, Decoder};
+use dial9_trace_format::schema::SchemaEntry;
+use dial9_trace_format::types::{FieldType, FieldValue};
 use std::alloc::{AllocError, Global};
 use std::process::Abort;
 use std::test::Fail;
+
+/// Headers alone, and the version of the first.
+const STREAMS: [(&[u8], u8); 2] = [
+    (&[0x54, 0x52, 0x43, 0x00, 0x01], 1),
+    (
+        &[0x54, 0x52, 0x43, 0x00, 0x07, 0x54, 0x52, 0x43, 0x00, 0x02],
+        7,
+    ),
+];
 
 /// The bytes are headers alone, the first of this version.
 fn check_streams(rt: &impl Abort, alloc: Global, bytes: &[u8], version: u8) -> Result<(), Fail> {
@@ -19,120 +30,52 @@ fn check_streams(rt: &impl Abort, alloc: Global, bytes: &[u8], version: u8) -> R
 }
 
 #[test]
-fn header_alone(rt: HostRuntime) -> Result<(), Fail> {
-    check_streams(&rt, rt.alloc(), &HEADER, 1)
+fn versions_of_headers(rt: HostRuntime) -> Result<(), Fail> {
+    for (bytes, version) in STREAMS {
+        check_streams(&rt, rt.alloc(), bytes, version)?;
+    }
+    Ok(())
 }
 
-#[test]
-fn any_version(rt: HostRuntime) -> Result<(), Fail> {
-    let bytes = [0x54, 0x52, 0x43, 0x00, 0x07, 0x54, 0x52, 0x43, 0x00, 0x02];
-    check_streams(&rt, rt.alloc(), &bytes, 7)
+/// The entry is the schema `Ev` of the field `v`.
+fn check_entry(rt: &impl Abort, entry: &SchemaEntry) {
+    assert_eq!(rt; entry.name(), "Ev");
+    match entry.fields() {
+        [field] => {
+            assert_eq!(rt; field.name(), "v");
+            assert_eq!(rt; field.field_type(), FieldType::Varint);
+        }
+        _ => assert!(rt; false, "other fields"),
+    }
 }
 
-#[test]
-fn no_header(rt: HostRuntime) {
-    assert!(rt; !has_header(rt.alloc(), &[]));
-    assert!(rt; !has_header(rt.alloc(), &[0x54, 0x52, 0x43, 0x01, 0x01]));
-    assert!(rt; !has_header(rt.alloc(), &[0x54, 0x52, 0x43, 0x00]));
+/// The frame is the schema `Ev`.
+fn check_ev(rt: &impl Abort, frame: &DecodedFrame) {
+    match frame {
+        DecodedFrame::Schema(entry) => check_entry(rt, entry),
+        _ => assert!(rt; false, "another frame"),
+    }
 }
 
-/// The decoder gives the schema `Ev`, and is then at this place.
-fn check_next_ev(rt: &impl Abort, decoder: &mut Decoder<'_>, place: usize) -> Result<(), Fail> {
+/// The frame is the event of wire id 256 at 1,000 with 42.
+fn check_event(rt: &impl Abort, frame: &DecodedFrame) {
+    match frame {
+        DecodedFrame::Event {
+            type_id: WireTypeId(256),
+            timestamp_ns: 1_000,
+            values,
+        } => assert!(rt; matches!(values.as_slice(), [FieldValue::Varint(42)])),
+        _ => assert!(rt; false, "another frame"),
+    }
+}
+
+/// The decoder gives the schema `Ev` and the event, and is behind each then.
+fn check_frames(rt: &impl Abort, decoder: &mut Decoder<'_>) -> Result<(), Fail> {
     check_ev(rt, &next_one(decoder)?);
-    assert_eq!(rt; (*decoder).position(), place);
+    check_place(rt, decoder, 19);
+    check_event(rt, &next_one(decoder)?);
+    check_place(rt, decoder, 26);
     Ok(())
-}
-
-/// The decoder gives the event at 1,000 with 42, and is then at this place.
-fn check_next_event(rt: &impl Abort, decoder: &mut Decoder<'_>, place: usize) -> Result<(), Fail> {
-    check_event(rt, &next_one(decoder)?, 1_000, 42);
-    assert_eq!(rt; (*decoder).position(), place);
-    Ok(())
-}
-
-#[test]
-fn one_event_frame_by_frame(rt: HostRuntime) -> Result<(), Fail> {
-    let mut decoder = decoder_of(rt.alloc(), &ONE_EVENT)?;
-    check_next_ev(&rt, &mut decoder, 19)?;
-    check_next_event(&rt, &mut decoder, 26)?;
-    check_end(&rt, &mut decoder, 26)
-}
-
-/// How many frames the one event has that is cut after its header, and where they end.
-fn read_of_cut(cut: usize) -> (usize, usize) {
-    if cut < 19 {
-        (0, 5)
-    } else if cut < 26 {
-        (1, 19)
-    } else {
-        (2, 26)
-    }
-}
-
-/// The first frame of the bytes is the schema `Ev`.
-fn check_first_ev(rt: &impl Abort, alloc: Global, bytes: &[u8]) -> Result<(), Fail> {
-    let mut decoder = decoder_of(alloc, bytes)?;
-    check_next_ev(rt, &mut decoder, 19)
-}
-
-#[test]
-fn every_cut_of_one_event(rt: HostRuntime) -> Result<(), Fail> {
-    for cut in 0..5usize {
-        assert!(rt; !has_header(rt.alloc(), &ONE_EVENT[..cut]));
-    }
-    for cut in 5..27usize {
-        let (count, place) = read_of_cut(cut);
-        check_all(&rt, rt.alloc(), &ONE_EVENT[..cut], count, place)?;
-    }
-    for cut in 19..27usize {
-        check_first_ev(&rt, rt.alloc(), &ONE_EVENT[..cut])?;
-    }
-    Ok(())
-}
-
-#[test]
-fn one_event_at_once(rt: HostRuntime) -> Result<(), Fail> {
-    let frames = all_of(rt.alloc(), &ONE_EVENT)?;
-    assert_eq!(rt; frames.len(), 2);
-    check_ev(&rt, &frames[0]);
-    check_event(&rt, &frames[1], 1_000, 42);
-    Ok(())
-}
-
-#[test]
-fn times_come_back(rt: HostRuntime) -> Result<(), Fail> {
-    let events = [
-        (100_000, 1),
-        (50_000, 2),
-        (200_000_000, 3),
-        (100_000_000, 4),
-    ];
-    let bytes = written(rt.alloc(), "TS", &events)?;
-    check_all(&rt, rt.alloc(), &bytes, 5, 74)?;
-    let frames = all_of(rt.alloc(), &bytes)?;
-    for (i, event) in events.iter().enumerate() {
-        assert!(rt; i + 1 < frames.len());
-        check_event(&rt, &frames[i + 1], event.0, event.1);
-    }
-    Ok(())
-}
-
-#[test]
-fn two_streams(rt: HostRuntime) -> Result<(), Fail> {
-    let bytes = joined(rt.alloc(), &ONE_EVENT, &ONE_EVENT)?;
-    check_all(&rt, rt.alloc(), &bytes, 4, 52)?;
-    let frames = all_of(rt.alloc(), &bytes)?;
-    assert_eq!(rt; frames.len(), 4);
-    check_event(&rt, &frames[1], 1_000, 42);
-    check_ev(&rt, &frames[2]);
-    check_event(&rt, &frames[3], 1_000, 42);
-    Ok(())
-}
-
-#[test]
-fn second_stream_cut_in_its_header(rt: HostRuntime) -> Result<(), Fail> {
-    let bytes = joined(rt.alloc(), &ONE_EVENT, &ONE_EVENT[..4])?;
-    check_all(&rt, rt.alloc(), &bytes, 2, 26)
 }
 
 /// The decoder gives the conflict of wire id 256, after the second schema.
@@ -144,15 +87,13 @@ fn check_conflict(rt: &impl Abort, decoder: &mut Decoder<'_>) {
             assert_eq!(rt; fault.kind, DecodeErrorKind::Conflict(WireTypeId(256)));
         }
     }
-    assert_eq!(rt; (*decoder).position(), 40);
+    check_place(rt, decoder, 40);
 }
 
 #[test]
 fn conflict(rt: HostRuntime) -> Result<(), Fail> {
-    let bytes = joined(rt.alloc(), &ONE_EVENT, &OTHER_EV)?;
-    let mut decoder = decoder_of(rt.alloc(), &bytes)?;
-    check_next_ev(&rt, &mut decoder, 19)?;
-    check_next_event(&rt, &mut decoder, 26)?;
+    let mut decoder = decoder_of(rt.alloc(), &CONFLICT)?;
+    check_frames(&rt, &mut decoder)?;
     check_conflict(&rt, &mut decoder);
     check_conflict(&rt, &mut decoder);
     assert_eq!(rt; all(&mut decoder)?.len(), 0);
@@ -161,27 +102,7 @@ fn conflict(rt: HostRuntime) -> Result<(), Fail> {
 
 #[test]
 fn all_frames_before_a_conflict(rt: HostRuntime) -> Result<(), Fail> {
-    let bytes = joined(rt.alloc(), &ONE_EVENT, &OTHER_EV)?;
-    check_all(&rt, rt.alloc(), &bytes, 2, 40)
-}
-
-#[test]
-fn same_schema_again(rt: HostRuntime) -> Result<(), Fail> {
-    let bytes = joined(rt.alloc(), &ONE_EVENT, &EV_SCHEMA)?;
-    check_all(&rt, rt.alloc(), &bytes, 3, 40)
-}
-
-#[test]
-fn events_without_times(rt: HostRuntime) -> Result<(), Fail> {
-    let bytes = [
-        0x54, 0x52, 0x43, 0x00, 0x01, 0x01, 0x00, 0x01, 0x02, 0x00, 0x45, 0x76, 0x00, 0x01, 0x00,
-        0x01, 0x00, 0x76, 0x09, 0x02, 0x00, 0x01, 0x2A,
-    ];
-    check_all(&rt, rt.alloc(), &bytes, 2, 23)?;
-    let frames = all_of(rt.alloc(), &bytes)?;
-    assert_eq!(rt; frames.len(), 2);
-    check_event(&rt, &frames[1], 0, 42);
-    Ok(())
+    check_all(&rt, rt.alloc(), &CONFLICT, 2, 40)
 }
 
 /// A header and the schema `Ev` of wire id 65,535, so many times.

@@ -1,27 +1,14 @@
 //! What readers do that show each event to a sink.
 
 use crate::tests::calls::decoder_of;
-use crate::tests::traces::{ONE_EVENT, joined};
-use dial9_trace_format::codec::WireTypeId;
+use crate::tests::checks::check_place;
+use crate::tests::traces::THREE_EVENTS;
 use dial9_trace_format::decoder::{
-    DecodeErrorKind, EventSink, EventVisitor, RawEvent, TryForEachError,
+    DecodeError, DecodeErrorKind, Decoder, EventSink, EventVisitor, RawEvent, TryForEachError,
 };
 use dial9_trace_format::types::FieldValueRef;
-use std::alloc::Global;
 use std::process::Abort;
 use std::test::Fail;
-
-/// A header, and the schema `S` of wire id 256 with the field `o: OptionalU8`.
-pub const OPTIONAL: [u8; 18] = [
-    0x54, 0x52, 0x43, 0x00, 0x01, 0x01, 0x00, 0x01, 0x01, 0x00, 0x53, 0x01, 0x01, 0x00, 0x01, 0x00,
-    0x6F, 0x8B,
-];
-
-/// Three events of `S` at 0 with no value, with 7 and with no value.
-pub const THREE_EVENTS: [u8; 22] = [
-    0x02, 0x00, 0x01, 0x00, 0x00, 0x00, 0x00, 0x02, 0x00, 0x01, 0x00, 0x00, 0x00, 0x01, 0x07, 0x02,
-    0x00, 0x01, 0x00, 0x00, 0x00, 0x00,
-];
 
 /// Counts events, and adds their times.
 #[derive(Drop)]
@@ -39,126 +26,50 @@ impl<'a> EventVisitor<'a> for Seen {
     }
 }
 
-/// The visitor is shown so many events, whose times are so much together, and then this fault comes.
-fn check_fault(
+/// The visitor is shown so many events, whose times are so much together.
+pub fn check_seen(rt: &impl Abort, visitor: &Seen, events: u64, times: u64) {
+    assert_eq!(rt; visitor.events, events);
+    assert_eq!(rt; visitor.times, times);
+}
+
+/// The fault is this one, at this place.
+pub fn check_fault(rt: &impl Abort, fault: &DecodeError, kind: &DecodeErrorKind, place: usize) {
+    assert!(rt; fault.kind == *kind);
+    assert_eq!(rt; fault.pos, place);
+}
+
+/// A visitor is shown so many events, whose times are so much together, and then this fault comes at this place.
+pub fn check_shown(
     rt: &impl Abort,
-    alloc: Global,
-    bytes: &[u8],
+    decoder: &mut Decoder<'_>,
     seen: (u64, u64),
-    fault: (DecodeErrorKind, usize),
-    position: usize,
-) -> Result<(), Fail> {
-    let mut decoder = decoder_of(alloc, bytes)?;
+    kind: &DecodeErrorKind,
+    place: usize,
+) {
     let mut visitor = Seen {
         events: 0,
         times: 0,
     };
     match decoder.for_each_event(&mut visitor) {
         Ok(()) => assert!(rt; false, "no fault"),
-        Err(error) => {
-            assert_eq!(rt; error.kind, fault.0);
-            assert_eq!(rt; error.pos, fault.1);
-        }
+        Err(fault) => check_fault(rt, &fault, kind, place),
     }
-    assert_eq!(rt; decoder.position(), position);
-    assert_eq!(rt; visitor.events, seen.0);
-    assert_eq!(rt; visitor.times, seen.1);
-    Ok(())
+    check_seen(rt, &visitor, seen.0, seen.1);
 }
 
-/// After the schema `S` this fault comes, and the position is 18.
-fn check_after_schema(
-    rt: &impl Abort,
-    alloc: Global,
-    tail: &[u8],
-    kind: DecodeErrorKind,
-    pos: usize,
-) -> Result<(), Fail> {
-    let bytes = joined(alloc, &OPTIONAL, tail)?;
-    check_fault(rt, alloc, &bytes, (0, 0), (kind, pos), 18)
-}
-
-#[test]
-fn faults_of_heads(rt: HostRuntime) -> Result<(), Fail> {
-    let alloc = rt.alloc();
-    check_after_schema(
-        &rt,
-        alloc,
-        &[0x02, 0x00],
-        DecodeErrorKind::TruncatedEvent,
-        18,
-    )?;
-    let unknown = DecodeErrorKind::UnknownTypeId(WireTypeId(7));
-    check_after_schema(&rt, alloc, &[0x02, 0x07, 0x00], unknown, 18)?;
-    let no_delta = [0x02, 0x00, 0x01, 0x00];
-    check_after_schema(&rt, alloc, &no_delta, DecodeErrorKind::TruncatedDelta, 21)
-}
-
-#[test]
-fn faults_of_fields(rt: HostRuntime) -> Result<(), Fail> {
-    let alloc = rt.alloc();
-    let no_prefix = [0x02, 0x00, 0x01, 0x00, 0x00, 0x00];
-    check_after_schema(&rt, alloc, &no_prefix, DecodeErrorKind::TruncatedPrefix, 24)?;
-    let no_value = [0x02, 0x00, 0x01, 0x00, 0x00, 0x00, 0x01];
-    check_after_schema(
-        &rt,
-        alloc,
-        &no_value,
-        DecodeErrorKind::TruncatedOptional,
-        25,
-    )
-}
-
-#[test]
-fn faults_of_other_frames(rt: HostRuntime) -> Result<(), Fail> {
-    let alloc = rt.alloc();
-    check_after_schema(
-        &rt,
-        alloc,
-        &[0x05, 0x00],
-        DecodeErrorKind::TruncatedReset,
-        18,
-    )?;
-    check_after_schema(&rt, alloc, &[0xFF], DecodeErrorKind::NoFrame(0xFF), 18)
-}
-
-/// The time of the event passes `u64::MAX`, and its field is missing too: the first cause is told.
-#[test]
-fn overflow_before_fields(rt: HostRuntime) -> Result<(), Fail> {
-    let tail = [
-        0x05, 0xFF, 0xFF, 0xFF, 0xFF, 0xFF, 0xFF, 0xFF, 0xFF, 0x02, 0x00, 0x01, 0x01, 0x00, 0x00,
-    ];
-    let bytes = joined(rt.alloc(), &OPTIONAL, &tail)?;
-    let fault = (DecodeErrorKind::TimestampOverflow, 30);
-    check_fault(&rt, rt.alloc(), &bytes, (0, 0), fault, 27)
-}
-
-/// The first of two fields is cut, and so is the second: the place of the first is told.
-#[test]
-fn first_field_first(rt: HostRuntime) -> Result<(), Fail> {
-    let bytes = [
-        0x54, 0x52, 0x43, 0x00, 0x01, 0x01, 0x00, 0x01, 0x01, 0x00, 0x53, 0x01, 0x02, 0x00, 0x01,
-        0x00, 0x73, 0x04, 0x01, 0x00, 0x6F, 0x8B, 0x02, 0x00, 0x01, 0x00, 0x00, 0x00, 0x05,
-    ];
-    let fault = (DecodeErrorKind::TruncatedValue, 28);
-    check_fault(&rt, rt.alloc(), &bytes, (0, 0), fault, 22)
-}
-
-#[test]
-fn text_that_is_not_utf8(rt: HostRuntime) -> Result<(), Fail> {
-    let bytes = [
-        0x54, 0x52, 0x43, 0x00, 0x01, 0x01, 0x00, 0x01, 0x01, 0x00, 0x53, 0x01, 0x01, 0x00, 0x01,
-        0x00, 0x73, 0x04, 0x02, 0x00, 0x01, 0x00, 0x00, 0x00, 0x01, 0x00, 0x00, 0x00, 0xFF,
-    ];
-    let fault = (DecodeErrorKind::TruncatedValue, 24);
-    check_fault(&rt, rt.alloc(), &bytes, (0, 0), fault, 18)
-}
+/// The one event, and the front of a second header.
+const CUT_HEADER: [u8; 30] = [
+    0x54, 0x52, 0x43, 0x00, 0x01, 0x01, 0x00, 0x01, 0x02, 0x00, 0x45, 0x76, 0x01, 0x01, 0x00, 0x01,
+    0x00, 0x76, 0x09, 0x02, 0x00, 0x01, 0xE8, 0x03, 0x00, 0x2A, 0x54, 0x52, 0x43, 0x00,
+];
 
 #[test]
 fn second_header_cut(rt: HostRuntime) -> Result<(), Fail> {
-    let bytes = joined(rt.alloc(), &ONE_EVENT, &ONE_EVENT[..4])?;
-    let fault = (DecodeErrorKind::NoFrame(0x54), 26);
-    check_fault(&rt, rt.alloc(), &bytes, (1, 1_000), fault, 26)
+    let mut decoder = decoder_of(rt.alloc(), &CUT_HEADER)?;
+    let no_frame = DecodeErrorKind::NoFrame(0x54);
+    check_shown(&rt, &mut decoder, (1, 1_000), &no_frame, 26);
+    check_place(&rt, &decoder, 26);
+    Ok(())
 }
 
 /// Adds the numbers of events, and refuses the event after so many.
@@ -190,34 +101,31 @@ impl<'a> EventSink<'a, Unwanted> for Adding {
     }
 }
 
-/// The sink takes so many events and refuses the next, which ends at `position`; another then takes the others.
-fn check_refusal(
-    rt: &impl Abort,
-    alloc: Global,
-    taken: u8,
-    position: usize,
-    others: u64,
-) -> Result<(), Fail> {
-    let bytes = joined(alloc, &OPTIONAL, &THREE_EVENTS)?;
-    let mut decoder = decoder_of(alloc, &bytes)?;
-    let mut sink = Adding {
-        left: taken,
-        total: 0,
-    };
-    let refused: Result<(), TryForEachError<Unwanted>> = decoder.try_for_each_event(&mut sink);
+/// The sink refuses an event.
+pub fn check_unwanted(rt: &impl Abort, decoder: &mut Decoder<'_>, sink: &mut Adding) {
+    let refused: Result<(), TryForEachError<Unwanted>> = decoder.try_for_each_event(sink);
     assert!(rt; matches!(refused, Err(TryForEachError::User(Unwanted))));
-    assert_eq!(rt; decoder.position(), position);
+}
+
+/// A sink takes the events that are left, whose numbers are so much together.
+fn check_rest(rt: &impl Abort, decoder: &mut Decoder<'_>, total: u64) {
     let mut rest = Adding { left: 3, total: 0 };
     let taken: Result<(), TryForEachError<Unwanted>> = decoder.try_for_each_event(&mut rest);
     assert!(rt; taken.is_ok());
-    assert_eq!(rt; rest.total, others);
-    assert_eq!(rt; decoder.position(), 40);
-    Ok(())
+    assert_eq!(rt; rest.total, total);
 }
+
+/// How many events a sink takes before it refuses one, where that one ends, and the numbers of those after it.
+const REFUSALS: [(u8, usize, u64); 3] = [(0, 25, 7), (1, 33, 0), (2, 40, 0)];
 
 #[test]
 fn refusals(rt: HostRuntime) -> Result<(), Fail> {
-    check_refusal(&rt, rt.alloc(), 0, 25, 7)?;
-    check_refusal(&rt, rt.alloc(), 1, 33, 0)?;
-    check_refusal(&rt, rt.alloc(), 2, 40, 0)
+    for (left, place, others) in REFUSALS {
+        let mut decoder = decoder_of(rt.alloc(), &THREE_EVENTS)?;
+        check_unwanted(&rt, &mut decoder, &mut Adding { left, total: 0 });
+        check_place(&rt, &decoder, place);
+        check_rest(&rt, &mut decoder, others);
+        check_place(&rt, &decoder, 40);
+    }
+    Ok(())
 }
