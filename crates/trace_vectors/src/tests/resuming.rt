@@ -13,7 +13,7 @@ use std::alloc::Global;
 use std::io::ErrorKind;
 use std::process::Abort;
 use std::test::Fail;
-use trace_samples::{Refusal, Script, Told};
+use trace_samples::{Refusal, Manner, Told};
 
 /// A frame is read with owned values, one with borrowed values, one by an iterator, and one is shown to a sink, which refuses it.
 fn read_in_turn(rt: &impl Abort, decoder: &mut Decoder<'_>) -> Result<(), Fail> {
@@ -46,9 +46,9 @@ fn goes_on_after_readers_in_turn(rt: HostRuntime) -> Result<(), Fail> {
     Ok(())
 }
 
-/// An encoder over a writer of this script.
-fn encoder_to(alloc: Global, script: Script) -> Result<Encoder<Told>, EncodeError> {
-    Encoder::new_to(alloc, Told::new(script))
+/// An encoder over a writer of this manner.
+fn encoder_to(alloc: Global, manner: Manner) -> Result<Encoder<Told>, EncodeError> {
+    Encoder::new_to(alloc, Told::new(manner))
 }
 
 /// Writes an event of `Ev` at 1,000 with 42.
@@ -59,8 +59,8 @@ fn put_event(alloc: Global, encoder: &mut Encoder<Told>) -> Result<(), EncodeErr
 
 /// The writer that failed inside that event.
 fn torn(rt: &impl Abort, alloc: Global) -> Result<Told, EncodeError> {
-    let script = breaking(3, 22, Refusal::Error(ErrorKind::BrokenPipe));
-    let mut broken = encoder_to(alloc, script)?;
+    let manner = breaking(3, 22, Refusal::Error(ErrorKind::BrokenPipe));
+    let mut broken = encoder_to(alloc, manner)?;
     let fault = put_event(alloc, &mut broken).err();
     check_refused(rt, fault, EncodeError::Writer(ErrorKind::BrokenPipe));
     Ok(broken.into_inner())
@@ -129,8 +129,8 @@ fn fail_and_go_on(
 
 #[test]
 fn a_failed_encoder_begins_anew(rt: HostRuntime) -> Result<(), Fail> {
-    let script = breaking(3, 8, Refusal::Error(ErrorKind::BrokenPipe));
-    let mut encoder = encoder_to(rt.alloc(), script)?;
+    let manner = breaking(3, 8, Refusal::Error(ErrorKind::BrokenPipe));
+    let mut encoder = encoder_to(rt.alloc(), manner)?;
     fail_and_go_on(&rt, rt.alloc(), &mut encoder)?;
     let told = encoder.into_inner();
     check_told(&rt, &told, &ONE_EVENT, Faults::NoFault, true);
@@ -143,8 +143,8 @@ fn check_not_reset(
     alloc: Global,
     encoder: &mut Encoder<Told>,
 ) -> Result<(), EncodeError> {
-    let script = breaking(3, 3, Refusal::Zero);
-    let refused = encoder.reset_to(Told::new(script)).err();
+    let manner = breaking(3, 3, Refusal::Zero);
+    let refused = encoder.reset_to(Told::new(manner)).err();
     check_refused(rt, refused, EncodeError::Writer(ErrorKind::WriteZero));
     put_event(alloc, encoder)
 }
