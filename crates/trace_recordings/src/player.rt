@@ -9,7 +9,9 @@ ghost use Rattle.trace_recordings.specs.Playing.{AnswersResumption, DefinesType,
 ghost use Rattle.trace_recordings.specs.Samples.{is_sample, sample_index};
 ghost use Rattle.trace_recordings.specs.Refusals.{IsHad, IsOfPlayer, IsUnheld, LacksHeader, LacksType, LeavesOut, MissesAt, RefusesScript, RefusesCall, RefusesUnder, misses};
 
-use crate::script::{ScriptCall, Definition, LineError, PoolStack, PoolText, ScriptError, script_of};
+use crate::script::{
+    Definition, LineError, PoolStack, PoolText, ScriptCall, ScriptError, script_of,
+};
 use crate::typed::{Sample, Unheld, sample_in, write_sample};
 use dial9_trace_format::decoder::Decoder;
 use std::alloc::{AllocError, AllocFailed, Global};

@@ -8,16 +8,16 @@ ghost use Rattle.trace_recordings.specs.declared.script.line_error.LineError.The
 
 mod call;
 mod definitions;
-mod line_error;
 mod line;
+mod line_error;
 mod loose;
 mod parts;
 mod pools;
 
 pub use call::ScriptCall;
 pub use definitions::Definition;
-pub use line_error::LineError;
 use line::call_of;
+pub use line_error::LineError;
 pub use pools::{PoolStack, PoolText};
 use std::alloc::Global;
 use thiserror::Error;

@@ -5,5 +5,5 @@ pub mod events;
 pub mod manner;
 pub mod told;
 
-pub use manner::{Failing, Refusal, Manner};
+pub use manner::{Failing, Manner, Refusal};
 pub use told::Told;

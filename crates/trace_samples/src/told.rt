@@ -5,7 +5,7 @@ ghost use Rattle.trace_values.specs.Sending.{Took, Holds, Settles, taken, send_f
 ghost use Rattle.trace_samples.specs.Telling.{all_told, new_teller, Follows, FollowsSettling, IsRefusal, manner_spent};
 ghost use Rattle.trace_samples.specs.Manners.{next_refusal};
 
-use crate::manner::{ROOM, Refusal, Manner};
+use crate::manner::{Manner, ROOM, Refusal};
 use std::io;
 use std::io::ErrorKind;
 use std::marker::Model;

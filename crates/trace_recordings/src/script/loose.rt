@@ -2,12 +2,12 @@
 //! sees whether the line begins with that.
 
 ghost use Rattle.std.specs.Prelude.{◌≡◌, ◌-◌, ◌+◌, ◌<◌, ◌≤◌, drop, length, IfOk, IfSome};
+ghost use Rattle.trace_recordings.specs.Scripts.{Shortens};
 
 use crate::script::line_error::LineError;
 use crate::script::parts::after_mark;
 use std::alloc::Global;
 use trace_values::types::{FieldValue, InternedStackFrames, InternedString, StackFrames};
-ghost use Rattle.trace_recordings.specs.Scripts.{Shortens};
 
 /// The number of the digits at the front, and the rest. It wraps at 64 bits, and is 0 where no digit stands.
 pub fn number(text: &[u8], radix: u32) -> (u64, &[u8])

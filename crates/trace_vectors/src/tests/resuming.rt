@@ -13,7 +13,7 @@ use std::alloc::Global;
 use std::io::ErrorKind;
 use std::process::Abort;
 use std::test::Fail;
-use trace_samples::{Refusal, Manner, Told};
+use trace_samples::{Manner, Refusal, Told};
 
 /// A frame is read with owned values, one with borrowed values, one by an iterator, and one is shown to a sink, which refuses it.
 fn read_in_turn(rt: &impl Abort, decoder: &mut Decoder<'_>) -> Result<(), Fail> {

@@ -3,7 +3,7 @@
 use dial9_trace_format::leb128::Faults;
 use std::io::ErrorKind;
 use std::process::Abort;
-use trace_samples::{Failing, Refusal, Manner, Told};
+use trace_samples::{Failing, Manner, Refusal, Told};
 
 /// Ways to fail: an error, an interrupted write, and the answer 0.
 pub const KINDS: [Refusal; 3] = [

@@ -10,7 +10,7 @@ use std::alloc::Global;
 use std::io::ErrorKind;
 use std::process::Abort;
 use std::test::Fail;
-use trace_samples::{Refusal, Manner, Told};
+use trace_samples::{Manner, Refusal, Told};
 
 /// Header, and the pool frame of `hello` under 0.
 const TEXT: [u8; 23] = [
