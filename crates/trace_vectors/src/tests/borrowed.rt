@@ -1,6 +1,9 @@
 //! What a decoder gives of frames whose values stay in the input, and what its iterators give.
 
-use crate::tests::calls::{decoder_of, next, next_one};
+use crate::tests::calls::decoder_of;
+use crate::tests::checks::check_place;
+use crate::tests::mixed::{check_borrowed_to, check_ended, check_owned_to};
+use crate::tests::sinks::check_fault;
 use crate::tests::traces::{CONFLICT, ONE_EVENT};
 use dial9_trace_format::codec::{PoolEntryRef, StackPoolEntryRef, WireTypeId};
 use dial9_trace_format::decoder::{DecodeError, DecodeErrorKind, DecodedFrameRef, Decoder};
@@ -18,62 +21,58 @@ pub fn step<'a>(decoder: &mut Decoder<'a>) -> Option<Result<DecodedFrameRef<'a>,
     decoder.next()
 }
 
-/// The frame is the event at 1,000 with 42.
-fn check_event_ref(rt: &impl Abort, frame: &DecodedFrameRef<'_>) {
-    match frame {
-        DecodedFrameRef::Event {
-            type_id,
-            timestamp_ns,
-            values,
-        } => {
-            assert_eq!(rt; *type_id, WireTypeId(256));
-            assert_eq!(rt; *timestamp_ns, 1_000);
-            assert_eq!(rt; values.len(), 1);
-            assert!(rt; values[0] == FieldValueRef::Varint(42));
-        }
-        _ => assert!(rt; false, "another frame"),
-    }
-}
-
 /// Header, the schema `S` with a field `s` of type String, and an event whose string is the byte FF.
 const BAD_TEXT: [u8; 29] = [
     0x54, 0x52, 0x43, 0x00, 0x01, 0x01, 0x00, 0x01, 0x01, 0x00, 0x53, 0x01, 0x01, 0x00, 0x01, 0x00,
     0x73, 0x04, 0x02, 0x00, 0x01, 0x00, 0x00, 0x00, 0x01, 0x00, 0x00, 0x00, 0xFF,
 ];
 
+/// The borrowed reader gives the schema alone, and the owned one the event behind it.
+fn check_owned_alone(rt: &impl Abort, decoder: &mut Decoder<'_>) -> Result<(), Fail> {
+    check_borrowed_to(rt, decoder, 18)?;
+    assert!(rt; next_ref(decoder)?.is_none());
+    assert!(rt; step(decoder).is_none());
+    check_place(rt, decoder, 18);
+    check_owned_to(rt, decoder, 29)
+}
+
 #[test]
 fn text_that_only_owned_frames_have(rt: HostRuntime) -> Result<(), Fail> {
     let mut decoder = decoder_of(rt.alloc(), &BAD_TEXT)?;
-    assert!(rt; next_ref(&mut decoder)?.is_some());
-    assert!(rt; next_ref(&mut decoder)?.is_none());
-    assert!(rt; step(&mut decoder).is_none());
-    assert_eq!(rt; decoder.position(), 18);
-    assert!(rt; next(&mut decoder)?.is_some());
-    assert_eq!(rt; decoder.position(), 29);
-    Ok(())
+    check_owned_alone(&rt, &mut decoder)
 }
 
-/// The iterator gives the conflict of wire id 256.
-fn check_conflict_told(rt: &impl Abort, decoder: &mut Decoder<'_>) {
+/// The iterator gives the conflict of wire id 256, and ends then.
+fn check_told_once(rt: &impl Abort, decoder: &mut Decoder<'_>) {
     match step(decoder) {
-        Some(Err(error)) => {
-            assert_eq!(rt; error.pos, 40);
-            assert_eq!(rt; error.kind, DecodeErrorKind::Conflict(WireTypeId(256)));
+        Some(Err(fault)) => {
+            check_fault(rt, &fault, &DecodeErrorKind::Conflict(WireTypeId(256)), 40);
         }
         _ => assert!(rt; false, "no conflict"),
     }
+    check_ended(rt, decoder);
+    assert!(rt; next_ref(decoder).is_err());
 }
 
 #[test]
 fn conflict_is_told_once(rt: HostRuntime) -> Result<(), Fail> {
     let mut decoder = decoder_of(rt.alloc(), &CONFLICT)?;
-    assert!(rt; next_ref(&mut decoder)?.is_some());
-    next_one(&mut decoder)?;
-    check_conflict_told(&rt, &mut decoder);
-    assert!(rt; step(&mut decoder).is_none());
-    assert!(rt; decoder.events().next().is_none());
-    assert!(rt; next_ref(&mut decoder).is_err());
+    check_borrowed_to(&rt, &mut decoder, 19)?;
+    check_owned_to(&rt, &mut decoder, 26)?;
+    check_told_once(&rt, &mut decoder);
     Ok(())
+}
+
+/// The frame is the event of wire id 256 at 1,000 with 42.
+fn check_event(rt: &impl Abort, frame: &DecodedFrameRef<'_>) {
+    match frame {
+        DecodedFrameRef::Event {
+            type_id: WireTypeId(256),
+            timestamp_ns: 1_000,
+            values,
+        } => assert!(rt; matches!(values.as_slice(), [FieldValueRef::Varint(42)])),
+        _ => assert!(rt; false, "another frame"),
+    }
 }
 
 #[test]
@@ -81,7 +80,7 @@ fn events_alone(rt: HostRuntime) -> Result<(), Fail> {
     let mut decoder = decoder_of(rt.alloc(), &ONE_EVENT)?;
     let mut events = decoder.events();
     match events.next() {
-        Some(Ok(frame)) => check_event_ref(&rt, &frame),
+        Some(Ok(frame)) => check_event(&rt, &frame),
         _ => assert!(rt; false, "no event"),
     }
     assert!(rt; events.next().is_none());
@@ -103,25 +102,12 @@ fn check_stack(rt: &impl Abort, entry: &StackPoolEntryRef<'_>) {
     assert_eq!(rt; entry.iter().next(), Some(0x1234));
 }
 
-/// The frame is a string pool of that one entry.
-fn check_texts(rt: &impl Abort, frame: &DecodedFrameRef<'_>) {
+/// The frame is a pool of that one entry.
+fn check_pool(rt: &impl Abort, frame: &DecodedFrameRef<'_>) {
     match frame {
-        DecodedFrameRef::StringPool(entries) => {
-            assert_eq!(rt; entries.len(), 1);
-            check_text(rt, &entries[0]);
-        }
-        _ => assert!(rt; false, "no texts"),
-    }
-}
-
-/// The frame is a stack pool of that one entry.
-fn check_stacks(rt: &impl Abort, frame: &DecodedFrameRef<'_>) {
-    match frame {
-        DecodedFrameRef::StackPool(entries) => {
-            assert_eq!(rt; entries.len(), 1);
-            check_stack(rt, &entries[0]);
-        }
-        _ => assert!(rt; false, "no stacks"),
+        DecodedFrameRef::StringPool(entries) if entries.len() == 1 => check_text(rt, &entries[0]),
+        DecodedFrameRef::StackPool(entries) if entries.len() == 1 => check_stack(rt, &entries[0]),
+        _ => assert!(rt; false, "another frame"),
     }
 }
 
@@ -135,7 +121,8 @@ fn pool_entries_in_the_input(rt: HostRuntime) -> Result<(), Fail> {
     let mut decoder = decoder_of(rt.alloc(), &bytes)?;
     let frames = decoder.decode_all_ref()?;
     assert_eq!(rt; frames.len(), 2);
-    check_texts(&rt, &frames[0]);
-    check_stacks(&rt, &frames[1]);
+    for frame in &frames {
+        check_pool(&rt, frame);
+    }
     Ok(())
 }

@@ -117,3 +117,10 @@ pub fn all_of(alloc: Global, bytes: &[u8]) -> Result<Vec<DecodedFrame>, Fail> {
 pub fn into_encoder(alloc: Global, decoder: Decoder<'_>) -> Result<Encoder, EncodeError> {
     decoder.into_encoder(Vec::new(alloc))
 }
+
+/// `FieldValue::encode`, into a new vector.
+pub fn encoded(alloc: Global, value: &FieldValue) -> Result<Vec<u8>, EncodeError> {
+    let mut out = Vec::new(alloc);
+    value.encode(alloc, &mut out)?;
+    Ok(out)
+}

@@ -31,19 +31,12 @@ fn check_entry(rt: &impl Abort, entry: &SchemaEntry, count: usize) {
 }
 
 #[test]
-fn copied_field(rt: HostRuntime) -> Result<(), Fail> {
+fn copied_parts_of_entries(rt: HostRuntime) -> Result<(), Fail> {
     let field = FieldDef::new(rt.alloc(), "v", FieldType::Varint)?;
-    check_field(&rt, &field);
     let copy = field.clone(rt.alloc())?;
     check_field(&rt, &copy);
     assert!(rt; copy == field);
-    Ok(())
-}
-
-#[test]
-fn copied_annotation(rt: HostRuntime) -> Result<(), Fail> {
     let annotation = FieldAnnotation::new(rt.alloc(), 7, "unit", "ns")?;
-    check_annotation(&rt, &annotation);
     let copy = annotation.clone(rt.alloc())?;
     check_annotation(&rt, &copy);
     assert!(rt; copy == annotation);
@@ -66,27 +59,22 @@ fn copied_entry(rt: HostRuntime) -> Result<(), Fail> {
 }
 
 #[test]
-fn copied_text_of_a_pool(rt: HostRuntime) -> Result<(), Fail> {
-    let entry = PoolEntry {
+fn copied_entries_of_pools(rt: HostRuntime) -> Result<(), Fail> {
+    let text = PoolEntry {
         pool_id: 5,
-        bytes: Vec::from_slice(rt.alloc(), b"x")?,
+        bytes: vec![in rt.alloc(); 0x78]?,
     };
-    let copy = entry.clone(rt.alloc())?;
+    let copy = text.clone(rt.alloc())?;
     assert_eq!(rt; copy.pool_id, 5);
     assert_eq!(rt; copy.bytes.as_slice(), b"x".as_slice());
-    assert!(rt; copy == entry);
-    Ok(())
-}
-
-#[test]
-fn copied_stack_of_a_pool(rt: HostRuntime) -> Result<(), Fail> {
-    let entry = StackPoolEntry {
+    assert!(rt; copy == text);
+    let stack = StackPoolEntry {
         pool_id: 5,
-        frames: Vec::from_slice(rt.alloc(), &[0xaaaa, 0xbbbb])?,
+        frames: vec![in rt.alloc(); 0xaaaa, 0xbbbb]?,
     };
-    let copy = entry.clone(rt.alloc())?;
+    let copy = stack.clone(rt.alloc())?;
     assert_eq!(rt; copy.pool_id, 5);
     assert_eq!(rt; copy.frames.as_slice(), [0xaaaa, 0xbbbb].as_slice());
-    assert!(rt; copy == entry);
+    assert!(rt; copy == stack);
     Ok(())
 }

@@ -149,18 +149,13 @@ fn check_counts(rt: &impl Abort, counting: &Counting, bytes: &[u8], writes: u64,
     assert_eq!(rt; counting.flushes, flushes);
 }
 
+/// One call of `send` makes one write, and `send_all` as many as its writer takes.
 #[test]
-fn a_long_piece_is_one_write(rt: HostRuntime) -> Result<(), Fail> {
+fn a_long_piece_goes_out_in_the_steps_of_its_writer(rt: HostRuntime) -> Result<(), Fail> {
     let bytes: Vec<u8> = vec![in rt.alloc(); 7; 200_000]?;
     let mut plain = Plain(Counting::new(rt.alloc(), 1_000_000));
     assert!(rt; matches!(plain.send(&bytes), Ok(200_000)));
     check_counts(&rt, &plain.0, &bytes, 1, 0);
-    Ok(())
-}
-
-#[test]
-fn a_long_piece_goes_out_in_the_steps_of_its_writer(rt: HostRuntime) -> Result<(), Fail> {
-    let bytes: Vec<u8> = vec![in rt.alloc(); 7; 200_000]?;
     let mut plain = Plain(Counting::new(rt.alloc(), 65_537));
     assert!(rt; send_all(&mut plain, &bytes).is_ok());
     check_counts(&rt, &plain.0, &bytes, 4, 0);

@@ -8,11 +8,8 @@ use std::process::Abort;
 use std::test::Fail;
 
 fn entry(alloc: Global, name: &str) -> Result<SchemaEntry, AllocError> {
-    SchemaEntry::new(
-        alloc,
-        name,
-        &[FieldDef::new(alloc, "v", FieldType::Varint)?],
-    )
+    let field = FieldDef::new(alloc, "v", FieldType::Varint)?;
+    SchemaEntry::new(alloc, name, &[field])
 }
 
 /// `SchemaRegistry::register`, of an entry of this name.
@@ -88,18 +85,4 @@ fn no_id_above_the_greatest(rt: HostRuntime) -> Result<(), Fail> {
     assert_eq!(rt; next_id(&mut again), None);
     assert!(rt; again.get(WireTypeId(256)).is_none());
     check_entries(&rt, &again, &[(65_535, "A")])
-}
-
-#[test]
-fn texts_of_the_faults(rt: HostRuntime) -> Result<(), Fail> {
-    let mut text = String::new(rt.alloc());
-    write!(text, "{}", RegisterError::Conflict(WireTypeId(9)))?;
-    assert_eq!(rt;
-        text.as_str(),
-        "type_id WireTypeId(9) already registered with different schema"
-    );
-    text.clear();
-    write!(text, "{}", RegisterError::OutOfMemory)?;
-    assert_eq!(rt; text.as_str(), "out of memory");
-    Ok(())
 }

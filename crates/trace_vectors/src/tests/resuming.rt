@@ -68,10 +68,11 @@ fn torn(rt: &impl Abort, alloc: Global) -> Result<Told, EncodeError> {
 
 /// An encoder that goes on behind the schema of a torn trace, which its writer has already.
 fn encoder_behind_schema(rt: &impl Abort, alloc: Global, bytes: &[u8]) -> Result<Encoder, Fail> {
+    let before = Vec::from_slice(alloc, &ONE_EVENT[..19])?;
     let mut decoder = decoder_of(alloc, bytes)?;
     assert_eq!(rt; all(&mut decoder)?.len(), 1);
     check_place(rt, &decoder, 19);
-    Ok(decoder.into_encoder(Vec::from_slice(alloc, &ONE_EVENT[..19])?)?)
+    Ok(decoder.into_encoder(before)?)
 }
 
 /// What its writer has after an event of `Ev` at 2,000 with 2.

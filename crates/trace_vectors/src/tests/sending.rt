@@ -112,9 +112,9 @@ fn sending_stops_where_the_writer_fails(rt: HostRuntime) {
     }
 }
 
-/// The call over a writer that takes so many bytes at a time.
-fn check_whole(rt: &impl Abort, alloc: Global, work: Work, step: usize) {
-    let mut told = Told::new(stepping(step));
+/// The call over a writer that does not fail, or would fail to settle: all is sent, and nothing settled.
+fn check_whole(rt: &impl Abort, alloc: Global, work: Work, script: Script) {
+    let mut told = Told::new(script);
     assert_eq!(rt; make(rt, alloc, &mut told, work), Ok(()));
     check_told(rt, &told, bytes_of(work), Faults::NoFault, false);
 }
@@ -123,8 +123,9 @@ fn check_whole(rt: &impl Abort, alloc: Global, work: Work, step: usize) {
 fn all_is_sent_in_any_steps(rt: HostRuntime) {
     for work in EACH {
         for step in [1, 2, 3, 1_024usize] {
-            check_whole(&rt, rt.alloc(), work, step);
+            check_whole(&rt, rt.alloc(), work, stepping(step));
         }
+        check_whole(&rt, rt.alloc(), work, unsettling(ErrorKind::StorageFull));
     }
 }
 
@@ -136,18 +137,4 @@ fn nothing_is_sent_of_no_bytes(rt: HostRuntime) -> Result<(), Fail> {
         check_told(&rt, &told, &[], Faults::NoFault, true);
     }
     Ok(())
-}
-
-/// The call settles nothing: the writer would fail then.
-fn check_unsettled(rt: &impl Abort, alloc: Global, work: Work) {
-    let mut told = Told::new(unsettling(ErrorKind::StorageFull));
-    assert_eq!(rt; make(rt, alloc, &mut told, work), Ok(()));
-    assert_eq!(rt; told.faults(), Faults::NoFault);
-}
-
-#[test]
-fn sending_settles_nothing(rt: HostRuntime) {
-    for work in EACH {
-        check_unsettled(&rt, rt.alloc(), work);
-    }
 }

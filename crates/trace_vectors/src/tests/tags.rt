@@ -1,4 +1,4 @@
-//! The tags of the optional types, and their bit.
+//! The tags of the types, and the bit of the optional ones.
 
 use dial9_trace_format::types::FieldType;
 use std::process::Abort;
@@ -42,4 +42,24 @@ fn bit_of_the_optional_tags(rt: HostRuntime) -> Result<(), Fail> {
         assert_eq!(rt; read.inner(), field_type);
     }
     Ok(())
+}
+
+/// The tag names no type but those of the table.
+fn check_tag(rt: &impl Abort, tag: u8) {
+    match FieldType::from_tag(tag) {
+        None => assert!(rt; tag == 0 || (15 < tag && tag < 0x81) || 0x8F < tag),
+        Some(field_type) => {
+            assert_eq!(rt; field_type.tag(), tag);
+            assert_eq!(rt; field_type.is_optional(), tag >= FieldType::OPTIONAL_BIT);
+            assert_eq!(rt; field_type.inner().tag(), tag % 0x80);
+            assert_eq!(rt; field_type.optional().tag(), tag % 0x80 + 0x80);
+        }
+    }
+}
+
+#[test]
+fn all_tags(rt: HostRuntime) {
+    for tag in 0..=255u8 {
+        check_tag(&rt, tag);
+    }
 }

@@ -1,8 +1,11 @@
 //! The texts of faults.
 
 use dial9_trace_format::codec::WireTypeId;
-use dial9_trace_format::decoder::{DecodeError, DecodeErrorKind};
+use dial9_trace_format::decoder::{DecodeError, DecodeErrorKind, TryForEachError};
 use dial9_trace_format::leb128::EncodeError;
+use dial9_trace_format::resolve::DeserError;
+use dial9_trace_format::schema::RegisterError;
+use dial9_trace_format::types::{InternedStackFrames, InternedString};
 use std::io::ErrorKind;
 use std::test::Fail;
 
@@ -69,14 +72,73 @@ fn faults_of_decoding(rt: HostRuntime) -> Result<(), Fail> {
     for (kind, text) in cases {
         assert_eq!(rt; format!(in rt.alloc(); "{kind}")?.as_str(), text);
     }
+    Ok(())
+}
+
+/// An error of a reader that shows events to a sink, which is named by its place, and one of the sink.
+#[test]
+fn faults_of_readers(rt: HostRuntime) -> Result<(), Fail> {
     let fault = DecodeError {
         pos: 40,
         kind: DecodeErrorKind::TruncatedReset,
     };
-    let text = format!(in rt.alloc(); "{fault}")?;
     assert_eq!(rt;
-        text.as_str(),
+        format!(in rt.alloc(); "{fault}")?.as_str(),
         "decode error at byte 40: truncated timestamp reset"
     );
+    let cases: [(TryForEachError<EncodeError>, &str); 2] = [
+        (
+            TryForEachError::Decode(DecodeError {
+                pos: 7,
+                kind: DecodeErrorKind::TruncatedEvent,
+            }),
+            "decode error at byte 7: truncated event frame",
+        ),
+        (
+            TryForEachError::User(EncodeError::Failed),
+            "encoder has failed",
+        ),
+    ];
+    for (error, text) in cases {
+        assert_eq!(rt; format!(in rt.alloc(); "{error}")?.as_str(), text);
+    }
+    Ok(())
+}
+
+#[test]
+fn faults_of_registering(rt: HostRuntime) -> Result<(), Fail> {
+    let cases = [
+        (
+            RegisterError::Conflict(WireTypeId(9)),
+            "type_id WireTypeId(9) already registered with different schema",
+        ),
+        (RegisterError::OutOfMemory, "out of memory"),
+    ];
+    for (fault, text) in cases {
+        assert_eq!(rt; format!(in rt.alloc(); "{fault}")?.as_str(), text);
+    }
+    Ok(())
+}
+
+#[test]
+fn faults_of_resolving(rt: HostRuntime) -> Result<(), Fail> {
+    let cases = [
+        (
+            DeserError::UnknownString(InternedString::from_raw(7)),
+            "PooledString id pool#7 not found in string pool",
+        ),
+        (
+            DeserError::UnknownStack(InternedStackFrames::from_raw(4)),
+            "PooledStackFrames id stack#4 not found in stack pool",
+        ),
+        (
+            DeserError::SchemaShort,
+            "schema has fewer fields than the event",
+        ),
+        (DeserError::OutOfMemory, "out of memory"),
+    ];
+    for (fault, text) in cases {
+        assert_eq!(rt; format!(in rt.alloc(); "{fault}")?.as_str(), text);
+    }
     Ok(())
 }

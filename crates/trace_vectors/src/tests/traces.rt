@@ -28,13 +28,6 @@ pub const THREE_EVENTS: [u8; 40] = [
     0x07, 0x02, 0x00, 0x01, 0x00, 0x00, 0x00, 0x00,
 ];
 
-/// The bytes of the first, and then those of the second.
-pub fn joined(alloc: Global, first: &[u8], second: &[u8]) -> Result<Vec<u8>, AllocError> {
-    let mut bytes = Vec::from_slice(alloc, first)?;
-    bytes.extend_from_slice(second)?;
-    Ok(bytes)
-}
-
 /// The definition of one field.
 pub fn one_definition(
     alloc: Global,

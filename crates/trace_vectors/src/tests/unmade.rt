@@ -77,6 +77,7 @@ fn check_known<T: TraceEvent + Drop>(
 
 #[test]
 fn no_schema_of_a_known_slot(rt: HostRuntime) -> Result<(), Fail> {
+    assert_eq!(rt; STATIC_WIRE_ID_LIMIT, 256);
     let alloc = rt.alloc();
     let fast = FastSlot { time: 1 };
     check_known(&rt, alloc, &fast, &Unmade(FastSlot { time: 1 }), 12)?;
@@ -99,9 +100,4 @@ fn no_schema_of_a_known_name(rt: HostRuntime) -> Result<(), Fail> {
         flag: true,
     });
     check_known(&rt, alloc, &flag, &unmade, 14)
-}
-
-#[test]
-fn slots_below_256(rt: HostRuntime) {
-    assert_eq!(rt; STATIC_WIRE_ID_LIMIT, 256);
 }

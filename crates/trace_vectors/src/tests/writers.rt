@@ -10,7 +10,7 @@ use std::alloc::Global;
 use std::io::ErrorKind;
 use std::process::Abort;
 use std::test::Fail;
-use trace_samples::{Manner, Refusal, Told};
+use trace_samples::{Script, Told};
 
 /// Header, and the pool frame of `hello` under 0.
 const TEXT: [u8; 23] = [
@@ -191,61 +191,34 @@ fn check_each_place(rt: &impl Abort, alloc: Global, work: Work, step: usize) {
 fn each_call_stops_where_the_writer_fails(rt: HostRuntime) {
     for work in EACH {
         check_each_place(&rt, rt.alloc(), work, 1);
+        check_each_place(&rt, rt.alloc(), work, 3);
         check_each_place(&rt, rt.alloc(), work, 4);
         check_each_place(&rt, rt.alloc(), work, 1_024);
     }
 }
 
-/// The call over a writer that takes so many bytes at a time.
-fn check_whole(rt: &impl Abort, alloc: Global, work: Work, step: usize) -> Result<(), Fail> {
-    let mut encoder = Encoder::new_to(alloc, Told::new(stepping(step)))?;
+/// The call over a writer that does not fail, or would fail to settle: all is sent, and nothing settled, nor where all is known.
+fn check_whole(
+    rt: &impl Abort,
+    alloc: Global,
+    work: Work,
+    script: Script,
+) -> Result<(), EncodeError> {
+    let mut encoder = Encoder::new_to(alloc, Told::new(script))?;
     make(alloc, &mut encoder, work)?;
     check_sent(rt, &encoder, trace_of(work), Faults::NoFault);
-    Ok(())
-}
-
-#[test]
-fn each_call_sends_all_in_any_steps(rt: HostRuntime) -> Result<(), Fail> {
-    for work in EACH {
-        check_whole(&rt, rt.alloc(), work, 1)?;
-        check_whole(&rt, rt.alloc(), work, 3)?;
-        check_whole(&rt, rt.alloc(), work, 1_024)?;
-    }
-    Ok(())
-}
-
-#[test]
-fn writer_fails_after_eight_bytes(rt: HostRuntime) -> Result<(), Fail> {
-    let manner = breaking(3, 8, Refusal::Error(ErrorKind::BrokenPipe));
-    let mut encoder = Encoder::new_to(rt.alloc(), Told::new(manner))?;
-    let answer = make(rt.alloc(), &mut encoder, Work::RegisterExisting);
-    assert_eq!(rt; answer, Err(EncodeError::Writer(ErrorKind::BrokenPipe)));
-    assert_eq!(rt; encoder.bytes_written(), 8);
-    let told = encoder.into_inner();
-    let sent = [0x54, 0x52, 0x43, 0x00, 0x01, 0x01, 0x00, 0x01];
-    check_told(
-        &rt,
-        &told,
-        &sent,
-        Faults::OneFault(ErrorKind::BrokenPipe),
-        false,
-    );
-    Ok(())
-}
-
-/// The call settles nothing, nor does it where all is known: the writer would fail then.
-fn check_unsettled(rt: &impl Abort, alloc: Global, work: Work) -> Result<(), EncodeError> {
-    let mut encoder = Encoder::new_to(alloc, Told::new(unsettling(ErrorKind::StorageFull)))?;
-    make(alloc, &mut encoder, work)?;
     make(alloc, &mut encoder, work)?;
     assert_eq!(rt; encoder.as_inner().faults(), Faults::NoFault);
     Ok(())
 }
 
 #[test]
-fn an_encoder_settles_nothing(rt: HostRuntime) -> Result<(), Fail> {
+fn each_call_sends_all_in_any_steps(rt: HostRuntime) -> Result<(), Fail> {
     for work in EACH {
-        check_unsettled(&rt, rt.alloc(), work)?;
+        for step in [1, 3, 1_024usize] {
+            check_whole(&rt, rt.alloc(), work, stepping(step))?;
+        }
+        check_whole(&rt, rt.alloc(), work, unsettling(ErrorKind::StorageFull))?;
     }
     Ok(())
 }

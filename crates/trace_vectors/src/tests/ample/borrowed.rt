@@ -2,11 +2,24 @@
 
 use crate::tests::borrowed::next_ref;
 use crate::tests::calls::decoder_of;
+use crate::tests::checks::check_place;
 use crate::tests::sinks::Seen;
-use dial9_trace_format::decoder::{DecodedFrame, Decoder};
+use dial9_trace_format::decoder::{DecodedFrame, DecodedFrameRef, Decoder};
 use std::alloc::Global;
 use std::process::Abort;
 use std::test::Fail;
+
+/// The frame is this one, and so are its copies.
+fn check_frame(
+    rt: &impl Abort,
+    alloc: Global,
+    found: &DecodedFrameRef<'_>,
+    frame: &DecodedFrame,
+) -> Result<(), Fail> {
+    assert!(rt; found.clone(alloc)? == *found);
+    assert!(rt; found.to_owned(alloc)? == *frame);
+    Ok(())
+}
 
 /// The next borrowed frame is this one, and so are its copies.
 fn check_next(
@@ -16,9 +29,7 @@ fn check_next(
     frame: &DecodedFrame,
 ) -> Result<(), Fail> {
     let found = next_ref(decoder)?.ok_or("no frame")?;
-    assert!(rt; found.clone(alloc)? == found);
-    assert!(rt; found.to_owned(alloc)? == *frame);
-    Ok(())
+    check_frame(rt, alloc, &found, frame)
 }
 
 /// The borrowed frames are these, one by one.
@@ -33,7 +44,7 @@ fn check_one_by_one(
         check_next(rt, alloc, &mut decoder, frame)?;
     }
     assert!(rt; next_ref(&mut decoder)?.is_none());
-    assert_eq!(rt; Decoder::position(&decoder), bytes.len());
+    check_place(rt, &decoder, bytes.len());
     Ok(())
 }
 
@@ -46,7 +57,7 @@ pub fn check_at_once(
 ) -> Result<(), Fail> {
     let mut decoder = decoder_of(alloc, bytes)?;
     assert_eq!(rt; decoder.decode_all_ref()?.len(), count);
-    assert_eq!(rt; Decoder::position(&decoder), bytes.len());
+    check_place(rt, &decoder, bytes.len());
     Ok(())
 }
 
@@ -60,16 +71,22 @@ fn count_events(decoder: &mut Decoder<'_>) -> Result<u64, Fail> {
     Ok(count)
 }
 
-/// A visitor is shown as many events as the iterator gives.
-pub fn check_events(rt: &impl Abort, alloc: Global, bytes: &[u8]) -> Result<(), Fail> {
+/// How many events a visitor is shown.
+fn count_shown(alloc: Global, bytes: &[u8]) -> Result<u64, Fail> {
     let mut seen = Seen {
         events: 0,
         times: 0,
     };
     decoder_of(alloc, bytes)?.for_each_event(&mut seen)?;
+    Ok(seen.events)
+}
+
+/// A visitor is shown as many events as the iterator gives.
+pub fn check_events(rt: &impl Abort, alloc: Global, bytes: &[u8]) -> Result<(), Fail> {
+    let shown = count_shown(alloc, bytes)?;
     let mut decoder = decoder_of(alloc, bytes)?;
-    assert_eq!(rt; count_events(&mut decoder)?, seen.events);
-    assert_eq!(rt; Decoder::position(&decoder), bytes.len());
+    assert_eq!(rt; count_events(&mut decoder)?, shown);
+    check_place(rt, &decoder, bytes.len());
     Ok(())
 }
 

@@ -86,19 +86,14 @@ fn poll(label: InternedString) -> Poll {
 }
 
 #[test]
-fn many_events_of_a_slot(rt: HostRuntime) -> Result<(), Fail> {
+fn many_events_of_a_slot_and_of_a_name(rt: HostRuntime) -> Result<(), Fail> {
     let alloc = rt.alloc();
     let load = Annotated { time: 0, load: 1 };
     let number = LastSlot { time: 0, number: 1 };
+    let polled = poll(InternedString::from_raw(0));
     check_counts(&rt, alloc, &FastSlot { time: 0 }, (16, 1), 6)?;
     check_counts(&rt, alloc, &load, (50, 2), 7)?;
-    check_counts(&rt, alloc, &number, (25, 1), 8)
-}
-
-#[test]
-fn many_events_of_a_name(rt: HostRuntime) -> Result<(), Fail> {
-    let alloc = rt.alloc();
-    let polled = poll(InternedString::from_raw(0));
+    check_counts(&rt, alloc, &number, (25, 1), 8)?;
     check_counts(&rt, alloc, &ByName { time: 0 }, (13, 1), 6)?;
     check_counts(&rt, alloc, &polled, (35, 1), 16)
 }
@@ -247,50 +242,25 @@ fn types_of_texts_of_each_size(rt: HostRuntime) -> Result<(), Fail> {
     check_borrowed(&rt, rt.alloc(), MILLION)
 }
 
-#[test]
-fn types_of_lists_of_each_size(rt: HostRuntime) -> Result<(), Fail> {
-    let alloc = rt.alloc();
-    for size in SIZES {
-        check_count(
-            &rt,
-            alloc,
-            &stacks(alloc, size)?,
-            1,
-            (31, 1),
-            stacks_length(size),
-        )?;
-        check_count(
-            &rt,
-            alloc,
-            &dynamic(alloc, size)?,
-            1,
-            (31, 1),
-            dynamic_length(size),
-        )?;
+/// An event of a stack of this size, and one of a list and a map, are written and read, and dumped where they are shorter than a million.
+fn check_lists(rt: &impl Abort, alloc: Global, size: usize) -> Result<(), Fail> {
+    let event = stacks(alloc, size)?;
+    let stacks = check_read(rt, alloc, &event, 1, (31, 1), stacks_length(size))?;
+    let event = dynamic(alloc, size)?;
+    let dynamic = check_read(rt, alloc, &event, 1, (31, 1), dynamic_length(size))?;
+    if size < MILLION {
+        check_whole_dump(rt, alloc, &stacks);
+        check_whole_dump(rt, alloc, &dynamic);
     }
     Ok(())
 }
 
 #[test]
-fn types_of_a_million(rt: HostRuntime) -> Result<(), Fail> {
-    let alloc = rt.alloc();
-    check_read(
-        &rt,
-        alloc,
-        &stacks(alloc, MILLION)?,
-        1,
-        (31, 1),
-        stacks_length(MILLION),
-    )?;
-    check_read(
-        &rt,
-        alloc,
-        &dynamic(alloc, MILLION)?,
-        1,
-        (31, 1),
-        dynamic_length(MILLION),
-    )?;
-    Ok(())
+fn types_of_lists_of_each_size(rt: HostRuntime) -> Result<(), Fail> {
+    for size in SIZES {
+        check_lists(&rt, rt.alloc(), size)?;
+    }
+    check_lists(&rt, rt.alloc(), MILLION)
 }
 
 /// Four events, of types known by a slot and by a name, with a text that is interned between them.

@@ -2,9 +2,13 @@
 
 use crate::tests::ample::schemas::fields;
 use crate::tests::ample::traces::{check_trace, check_whole_dump};
-use crate::tests::ample::{COUNTS, MILLION, SIZED, SIZES, spelled_length, text, value};
-use crate::tests::calls::{put_event, put_one, register, register_new, run};
+use crate::tests::ample::{
+    COUNTS, MILLION, SIZED, SIZES, empty_pairs, spelled_length, text, value,
+};
+use crate::tests::calls::{all_of, put_event, put_one, register, register_new, run};
+use crate::tests::checks::check_refused;
 use crate::tests::traces::{ev, one_field};
+use dial9_trace_format::decoder::DecodedFrame;
 use dial9_trace_format::encoder::{Call, Encoder, Reply, Schema};
 use dial9_trace_format::leb128::EncodeError;
 use dial9_trace_format::types::{FieldType, FieldValue};
@@ -24,7 +28,15 @@ fn event(
     Ok(encoder.finish())
 }
 
-/// An event of a value of this size is written and read.
+/// The last of the frames is an event of these values.
+fn check_last(rt: &impl Abort, frames: &[DecodedFrame], wanted: &[FieldValue]) {
+    match frames.last() {
+        Some(DecodedFrame::Event { values, .. }) => assert!(rt; values.as_slice() == wanted),
+        _ => assert!(rt; false, "no event"),
+    }
+}
+
+/// An event of a value of this size is written, and read with that value.
 fn check_sized(
     rt: &impl Abort,
     alloc: Global,
@@ -37,6 +49,7 @@ fn check_sized(
         bytes.len() as u64,
         spelled_length(field_type, size).saturating_add(24)
     );
+    check_last(rt, &all_of(alloc, &bytes)?, &values);
     check_trace(rt, alloc, &bytes, 2)
 }
 
@@ -60,15 +73,16 @@ fn events_of_each_size(rt: HostRuntime) -> Result<(), Fail> {
             check_sized(&rt, rt.alloc(), field_type, size)?;
             check_dumped(&rt, rt.alloc(), field_type, size)?;
         }
+        check_sized(&rt, rt.alloc(), field_type, MILLION)?;
     }
     check_dumped(&rt, rt.alloc(), FieldType::Bytes, MILLION)
 }
 
 #[test]
-fn events_of_a_million(rt: HostRuntime) -> Result<(), Fail> {
-    for field_type in SIZED {
-        check_sized(&rt, rt.alloc(), field_type, MILLION)?;
-    }
+fn more_pairs_than_a_million_do_not_fit(rt: HostRuntime) -> Result<(), Fail> {
+    let values = [empty_pairs(rt.alloc(), MILLION)?];
+    let refused = event(rt.alloc(), FieldType::StringMap, &values).err();
+    check_refused(&rt, refused, EncodeError::Misfit { field: 0 });
     Ok(())
 }
 

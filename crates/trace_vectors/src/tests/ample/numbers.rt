@@ -1,5 +1,7 @@
 //! Values that have no size, and the absent value.
 
+use crate::tests::ample::values::check_read;
+use crate::tests::calls::encoded;
 use dial9_trace_format::leb128::{EncodeError, encode_unsigned};
 use dial9_trace_format::types::{
     EventEncoder, F64Bits, FieldType, FieldValue, FieldValueRef, InternedStackFrames,
@@ -38,28 +40,10 @@ fn field(alloc: Global, field_type: FieldType, value: &FieldValue) -> Result<Vec
     Ok(out)
 }
 
-/// Both readers read the value from these bytes.
-fn check_read(
-    rt: &impl Abort,
-    alloc: Global,
-    field_type: FieldType,
-    bytes: &[u8],
-    value: &FieldValue,
-) -> Result<(), Fail> {
-    let (owned, _) = FieldValue::decode(alloc, field_type, bytes)?.ok_or("no value")?;
-    assert!(rt; owned == *value);
-    let (borrowed, _) = FieldValueRef::decode(alloc, field_type, bytes, 0)?.ok_or("no value")?;
-    assert!(rt; borrowed.to_owned(alloc)? == *value);
-    assert!(rt; borrowed.clone(alloc)? == borrowed);
-    Ok(())
-}
-
 /// The value is copied, and written by its own kind.
 fn check_own(rt: &impl Abort, alloc: Global, value: &FieldValue) -> Result<(), Fail> {
     assert!(rt; value.clone(alloc)? == *value);
-    let mut out = Vec::new(alloc);
-    value.encode(alloc, &mut out)?;
-    assert!(rt; !out.is_empty());
+    assert!(rt; !encoded(alloc, value)?.is_empty());
     Ok(())
 }
 
@@ -88,11 +72,17 @@ fn fields_without_a_size(rt: HostRuntime) -> Result<(), Fail> {
     Ok(())
 }
 
+/// An absent value is copied, and one that is borrowed is owned.
+fn check_absent(rt: &impl Abort, alloc: Global) -> Result<(), Fail> {
+    check_own(rt, alloc, &FieldValue::None)?;
+    assert!(rt; FieldValueRef::None.to_owned(alloc)? == FieldValue::None);
+    assert!(rt; FieldValueRef::None.clone(alloc)? == FieldValueRef::None);
+    Ok(())
+}
+
 #[test]
 fn absent_values(rt: HostRuntime) -> Result<(), Fail> {
-    check_own(&rt, rt.alloc(), &FieldValue::None)?;
-    assert!(rt; FieldValueRef::None.to_owned(rt.alloc())? == FieldValue::None);
-    assert!(rt; FieldValueRef::None.clone(rt.alloc())? == FieldValueRef::None);
+    check_absent(&rt, rt.alloc())?;
     for tag in 0x81..=0x8Fu8 {
         let field_type = FieldType::from_tag(tag).ok_or("no type")?;
         let absent = field(rt.alloc(), field_type, &FieldValue::None)?;

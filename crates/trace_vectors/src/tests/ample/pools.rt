@@ -3,34 +3,70 @@
 use crate::tests::ample::traces::{check_trace, check_whole_dump};
 use crate::tests::ample::{COUNTS, MILLION, SIZES, text};
 use crate::tests::calls::{
-    all, decoder_of, intern, intern_stack, put_one, put_stacks, put_strings,
+    all, decoder_of, fresh, intern, intern_stack, put_one, put_stacks, put_strings,
 };
 use crate::tests::traces::one_field;
 use dial9_trace_format::codec::{PoolEntry, StackPoolEntry};
 use dial9_trace_format::encoder::Encoder;
 use dial9_trace_format::leb128::EncodeError;
-use dial9_trace_format::types::{FieldType, FieldValue};
+use dial9_trace_format::types::{FieldType, FieldValue, InternedStackFrames, InternedString};
 use std::alloc::{AllocError, Global};
 use std::process::Abort;
 use std::test::Fail;
 
+/// Interns a text of this size twice.
+fn put_text(
+    alloc: Global,
+    encoder: &mut Encoder,
+    size: usize,
+) -> Result<InternedString, EncodeError> {
+    let text = text(alloc, size)?;
+    let _first = intern(encoder, text.as_str())?;
+    intern(encoder, text.as_str())
+}
+
+/// Interns a stack of this size twice.
+fn put_stack(
+    alloc: Global,
+    encoder: &mut Encoder,
+    size: usize,
+) -> Result<InternedStackFrames, EncodeError> {
+    let stack: Vec<u64> = vec![in alloc; 7; size]?;
+    let _first = intern_stack(encoder, &stack)?;
+    intern_stack(encoder, &stack)
+}
+
 /// What an encoder writes for a text and a stack of this size, each interned twice.
 fn sized(alloc: Global, size: usize) -> Result<Vec<u8>, EncodeError> {
-    let text = text(alloc, size)?;
-    let stack: Vec<u64> = vec![in alloc; 7; size]?;
-    let mut encoder = Encoder::new(alloc)?;
-    intern(&mut encoder, text.as_str())?;
-    intern(&mut encoder, text.as_str())?;
-    intern_stack(&mut encoder, &stack)?;
-    intern_stack(&mut encoder, &stack)?;
+    let mut encoder = fresh(alloc)?;
+    let _text = put_text(alloc, &mut encoder, size)?;
+    let _stack = put_stack(alloc, &mut encoder, size)?;
     Ok(encoder.finish())
 }
 
-/// A text and a stack of this size are interned, read and dumped.
+/// Writes an event that holds a text and a stack of this size, by their ids.
+fn put_held(alloc: Global, encoder: &mut Encoder, size: usize) -> Result<(), EncodeError> {
+    let schema = one_field(alloc, "K", "f", FieldType::DynamicMap)?;
+    let key = FieldValue::PooledString(put_text(alloc, encoder, size)?);
+    let value = FieldValue::PooledStackFrames(put_stack(alloc, encoder, size)?);
+    let pairs = vec![in alloc; (key, value)]?;
+    put_one(encoder, &schema, 0, FieldValue::Map(pairs))
+}
+
+/// What an encoder writes for that event.
+fn held(alloc: Global, size: usize) -> Result<Vec<u8>, EncodeError> {
+    let mut encoder = fresh(alloc)?;
+    put_held(alloc, &mut encoder, size)?;
+    Ok(encoder.finish())
+}
+
+/// A text and a stack of this size are interned, read and dumped, and dumped in an event that holds them.
 fn check_sized(rt: &impl Abort, alloc: Global, size: usize) -> Result<(), Fail> {
     let bytes = sized(alloc, size)?;
     assert_eq!(rt; bytes.len(), size.saturating_mul(9).saturating_add(31));
     check_trace(rt, alloc, &bytes, 2)?;
+    check_whole_dump(rt, alloc, &bytes);
+    let bytes = held(alloc, size)?;
     check_whole_dump(rt, alloc, &bytes);
     Ok(())
 }
@@ -41,29 +77,6 @@ fn texts_and_stacks_of_each_size(rt: HostRuntime) -> Result<(), Fail> {
         check_sized(&rt, rt.alloc(), size)?;
     }
     check_sized(&rt, rt.alloc(), MILLION)
-}
-
-/// What an encoder writes for an event that holds a text and a stack of this size, by their ids.
-fn held(alloc: Global, size: usize) -> Result<Vec<u8>, EncodeError> {
-    let text = text(alloc, size)?;
-    let stack: Vec<u64> = vec![in alloc; 7; size]?;
-    let schema = one_field(alloc, "K", "f", FieldType::DynamicMap)?;
-    let mut encoder = Encoder::new(alloc)?;
-    let key = FieldValue::PooledString(intern(&mut encoder, text.as_str())?);
-    let value = FieldValue::PooledStackFrames(intern_stack(&mut encoder, &stack)?);
-    let mut pairs = Vec::new(alloc);
-    pairs.push((key, value))?;
-    put_one(&mut encoder, &schema, 0, FieldValue::Map(pairs))?;
-    Ok(encoder.finish())
-}
-
-#[test]
-fn held_texts_and_stacks_of_each_size(rt: HostRuntime) -> Result<(), Fail> {
-    for size in SIZES {
-        check_whole_dump(&rt, rt.alloc(), &held(rt.alloc(), size)?);
-    }
-    check_whole_dump(&rt, rt.alloc(), &held(rt.alloc(), MILLION)?);
-    Ok(())
 }
 
 /// Interns the number as a text and as a stack.

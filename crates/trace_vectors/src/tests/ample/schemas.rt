@@ -83,14 +83,26 @@ fn entry(alloc: Global, count: usize, notes: usize) -> Result<SchemaEntry, Alloc
     SchemaEntry::with_annotations(alloc, "S", &fields, &annotations)
 }
 
-/// The entry, its copy and its schema have so many fields and annotations.
-fn check_entry(rt: &impl Abort, alloc: Global, count: usize, notes: usize) -> Result<(), Fail> {
-    let mut entry = entry(alloc, count, notes)?;
+/// The entry has so many fields and annotations, and its copy equals it.
+fn check_copy(
+    rt: &impl Abort,
+    alloc: Global,
+    entry: &SchemaEntry,
+    count: usize,
+    notes: usize,
+) -> Result<SchemaEntry, Fail> {
     assert_eq!(rt; entry.fields().len(), count);
     assert_eq!(rt; entry.annotations().len(), notes);
     let copy = entry.clone(alloc)?;
-    assert!(rt; copy == entry);
-    entry.push_annotation_copies(alloc, copy.annotations())?;
+    assert!(rt; copy == *entry);
+    Ok(copy)
+}
+
+/// The entry, its copy and its schema have so many fields and annotations.
+fn check_entry(rt: &impl Abort, alloc: Global, count: usize, notes: usize) -> Result<(), Fail> {
+    let mut entry = entry(alloc, count, notes)?;
+    let copy = check_copy(rt, alloc, &entry, count, notes)?;
+    entry.append_annotations(alloc, copy.annotations())?;
     let schema = Schema::from_entry(alloc, copy)?;
     assert_eq!(rt; schema.fields().len(), count);
     Ok(())

@@ -1,12 +1,26 @@
 //! Reading what was written, at once and frame by frame, by both readers, copying it, and its dump.
 
 use crate::tests::ample::borrowed::check_borrowed;
-use crate::tests::calls::{all, decoder_of, next};
-use dial9_trace_format::decoder::DecodedFrame;
+use crate::tests::calls::{all, decoder_of, next_one};
+use crate::tests::checks::check_end;
+use dial9_trace_format::decoder::{DecodedFrame, Decoder};
 use std::alloc::Global;
 use std::process::Abort;
 use std::test::Fail;
 use trace_lines::dump::{WHOLE, dump};
+
+/// The next frame is a copy of this one.
+fn check_next(
+    rt: &impl Abort,
+    alloc: Global,
+    decoder: &mut Decoder<'_>,
+    frame: &DecodedFrame,
+) -> Result<(), Fail> {
+    let copy = frame.clone(alloc)?;
+    let found = next_one(decoder)?;
+    assert!(rt; found == copy);
+    Ok(())
+}
 
 /// Frame by frame the trace is read as these.
 fn check_one_by_one(
@@ -17,11 +31,9 @@ fn check_one_by_one(
 ) -> Result<(), Fail> {
     let mut decoder = decoder_of(alloc, bytes)?;
     for frame in frames {
-        assert!(rt; next(&mut decoder)? == Some(frame.clone(alloc)?));
+        check_next(rt, alloc, &mut decoder, frame)?;
     }
-    assert!(rt; next(&mut decoder)?.is_none());
-    assert_eq!(rt; decoder.position(), bytes.len());
-    Ok(())
+    check_end(rt, &mut decoder, bytes.len())
 }
 
 /// The trace is read whole as so many frames, also borrowed ones.

@@ -1,6 +1,7 @@
 //! Values that have a size.
 
 use crate::tests::ample::{MILLION, SIZED, SIZES, spelled_length, text, value};
+use crate::tests::calls::encoded;
 use dial9_trace_format::leb128::EncodeError;
 use dial9_trace_format::types::{
     EventEncoder, F64Bits, FieldType, FieldValue, FieldValueRef, InternedStackFrames,
@@ -9,13 +10,6 @@ use dial9_trace_format::types::{
 use std::alloc::{AllocError, Global};
 use std::process::Abort;
 use std::test::Fail;
-
-/// The bytes of a value by its own kind.
-fn encoded(alloc: Global, value: &FieldValue) -> Result<Vec<u8>, EncodeError> {
-    let mut out = Vec::new(alloc);
-    value.encode(alloc, &mut out)?;
-    Ok(out)
-}
 
 /// The reader of owned values reads the value from these bytes.
 fn check_owned(
@@ -46,6 +40,18 @@ fn check_borrowed(
     Ok(())
 }
 
+/// Both readers read the value from these bytes.
+pub fn check_read(
+    rt: &impl Abort,
+    alloc: Global,
+    field_type: FieldType,
+    bytes: &[u8],
+    value: &FieldValue,
+) -> Result<(), Fail> {
+    check_owned(rt, alloc, field_type, bytes, value)?;
+    check_borrowed(rt, alloc, field_type, bytes, value)
+}
+
 /// The value of this size is made, spelled, read and copied.
 fn check_sized(
     rt: &impl Abort,
@@ -56,8 +62,7 @@ fn check_sized(
     let value = value(alloc, field_type, size)?;
     let bytes = encoded(alloc, &value)?;
     assert_eq!(rt; bytes.len() as u64, spelled_length(field_type, size));
-    check_owned(rt, alloc, field_type, &bytes, &value)?;
-    check_borrowed(rt, alloc, field_type, &bytes, &value)?;
+    check_read(rt, alloc, field_type, &bytes, &value)?;
     assert!(rt; value.clone(alloc)? == value);
     Ok(())
 }
@@ -68,13 +73,6 @@ fn values_of_each_size(rt: HostRuntime) -> Result<(), Fail> {
         for size in SIZES {
             check_sized(&rt, rt.alloc(), field_type, size)?;
         }
-    }
-    Ok(())
-}
-
-#[test]
-fn values_of_a_million(rt: HostRuntime) -> Result<(), Fail> {
-    for field_type in SIZED {
         check_sized(&rt, rt.alloc(), field_type, MILLION)?;
     }
     Ok(())
