@@ -17,7 +17,7 @@ fn fields_of(alloc: Global, types: &[FieldType]) -> Result<Vec<FieldDef>, AllocE
 }
 
 /// Types of fields in a row, and their steps.
-const LAYOUTS: [(&[FieldType], &[Step]); 2] = [
+const LAYOUTS: [(&[FieldType], &[FieldStep]); 2] = [
     (
         &[
             FieldType::I64,
@@ -29,19 +29,19 @@ const LAYOUTS: [(&[FieldType], &[Step]); 2] = [
             FieldType::U32,
         ],
         &[
-            Step::Run {
+            FieldStep::Fixed {
                 first: 0,
                 count: 2,
                 width: 9,
             },
-            Step::Walk { field: 2 },
-            Step::Run {
+            FieldStep::Walk { field: 2 },
+            FieldStep::Fixed {
                 first: 3,
                 count: 1,
                 width: 2,
             },
-            Step::Walk { field: 4 },
-            Step::Run {
+            FieldStep::Walk { field: 4 },
+            FieldStep::Fixed {
                 first: 5,
                 count: 2,
                 width: 8,

@@ -113,8 +113,8 @@ fn sending_stops_where_the_writer_fails(rt: HostRuntime) {
 }
 
 /// The call over a writer that does not fail, or would fail to settle: all is sent, and nothing settled.
-fn check_whole(rt: &impl Abort, alloc: Global, work: Work, script: Script) {
-    let mut told = Told::new(script);
+fn check_whole(rt: &impl Abort, alloc: Global, work: Work, manner: Manner) {
+    let mut told = Told::new(manner);
     assert_eq!(rt; make(rt, alloc, &mut told, work), Ok(()));
     check_told(rt, &told, bytes_of(work), Faults::NoFault, false);
 }

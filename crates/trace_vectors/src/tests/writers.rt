@@ -10,7 +10,7 @@ use std::alloc::Global;
 use std::io::ErrorKind;
 use std::process::Abort;
 use std::test::Fail;
-use trace_samples::{Script, Told};
+use trace_samples::{Manner, Told};
 
 /// Header, and the pool frame of `hello` under 0.
 const TEXT: [u8; 23] = [
@@ -202,9 +202,9 @@ fn check_whole(
     rt: &impl Abort,
     alloc: Global,
     work: Work,
-    script: Script,
+    manner: Manner,
 ) -> Result<(), EncodeError> {
-    let mut encoder = Encoder::new_to(alloc, Told::new(script))?;
+    let mut encoder = Encoder::new_to(alloc, Told::new(manner))?;
     make(alloc, &mut encoder, work)?;
     check_sent(rt, &encoder, trace_of(work), Faults::NoFault);
     make(alloc, &mut encoder, work)?;

@@ -102,7 +102,7 @@ fn check_copy(
 fn check_entry(rt: &impl Abort, alloc: Global, count: usize, notes: usize) -> Result<(), Fail> {
     let mut entry = entry(alloc, count, notes)?;
     let copy = check_copy(rt, alloc, &entry, count, notes)?;
-    entry.append_annotations(alloc, copy.annotations())?;
+    entry.push_annotation_copies(alloc, copy.annotations())?;
     let schema = Schema::from_entry(alloc, copy)?;
     assert_eq!(rt; schema.fields().len(), count);
     Ok(())
