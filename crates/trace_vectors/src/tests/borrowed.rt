@@ -105,8 +105,14 @@ fn check_stack(rt: &impl Abort, entry: &StackPoolEntryRef<'_>) {
 /// The frame is a pool of that one entry.
 fn check_pool(rt: &impl Abort, frame: &DecodedFrameRef<'_>) {
     match frame {
-        DecodedFrameRef::StringPool(entries) if entries.len() == 1 => check_text(rt, &entries[0]),
-        DecodedFrameRef::StackPool(entries) if entries.len() == 1 => check_stack(rt, &entries[0]),
+        DecodedFrameRef::StringPool(entries) => match entries.as_slice() {
+            [entry] => check_text(rt, entry),
+            _ => assert!(rt; false, "other texts"),
+        },
+        DecodedFrameRef::StackPool(entries) => match entries.as_slice() {
+            [entry] => check_stack(rt, entry),
+            _ => assert!(rt; false, "other stacks"),
+        },
         _ => assert!(rt; false, "another frame"),
     }
 }

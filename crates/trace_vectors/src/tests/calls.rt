@@ -15,11 +15,6 @@ pub fn fresh(alloc: Global) -> Result<Encoder, EncodeError> {
     Encoder::new(alloc)
 }
 
-/// `Encoder::reset_to`, of a new vector.
-pub fn reset(alloc: Global, encoder: &mut Encoder) -> Result<Vec<u8>, EncodeError> {
-    encoder.reset_to(Vec::new(alloc))
-}
-
 /// `Encoder::intern_string`.
 pub fn intern(encoder: &mut Encoder, text: &str) -> Result<InternedString, EncodeError> {
     encoder.intern_string(text)

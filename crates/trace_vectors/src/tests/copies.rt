@@ -31,19 +31,6 @@ fn check_entry(rt: &impl Abort, entry: &SchemaEntry, count: usize) {
 }
 
 #[test]
-fn copied_parts_of_entries(rt: HostRuntime) -> Result<(), Fail> {
-    let field = FieldDef::new(rt.alloc(), "v", FieldType::Varint)?;
-    let copy = field.clone(rt.alloc())?;
-    check_field(&rt, &copy);
-    assert!(rt; copy == field);
-    let annotation = FieldAnnotation::new(rt.alloc(), 7, "unit", "ns")?;
-    let copy = annotation.clone(rt.alloc())?;
-    check_annotation(&rt, &copy);
-    assert!(rt; copy == annotation);
-    Ok(())
-}
-
-#[test]
 fn copied_entry(rt: HostRuntime) -> Result<(), Fail> {
     let fields = [FieldDef::new(rt.alloc(), "v", FieldType::Varint)?];
     let annotations = [FieldAnnotation::new(rt.alloc(), 7, "unit", "ns")?];

@@ -1,13 +1,12 @@
 //! A trace with each kind of frame: copies of its frames, and its calls as data.
 
-use crate::tests::calls::{all_of, run};
-use crate::tests::checks::check_bytes;
+use crate::tests::calls::{all_of, fresh, run};
+use crate::tests::traces::ev;
 use dial9_trace_format::codec::WireTypeId;
 use dial9_trace_format::decoder::DecodedFrame;
-use dial9_trace_format::encoder::{Call, Encoder, Reply, Schema};
+use dial9_trace_format::encoder::{Call, Encoder, Reply};
 use dial9_trace_format::leb128::EncodeError;
-use dial9_trace_format::schema::{FieldAnnotation, FieldDef, SchemaEntry};
-use dial9_trace_format::types::{FieldType, FieldValue, InternedStackFrames, InternedString};
+use dial9_trace_format::types::{FieldValue, InternedStackFrames, InternedString};
 use std::alloc::{AllocError, Global};
 use std::process::Abort;
 use std::test::Fail;
@@ -39,29 +38,23 @@ fn each_kind_copied(rt: HostRuntime) -> Result<(), Fail> {
     Ok(())
 }
 
-/// The entry of `Ev` with its annotation.
-fn annotated_entry(alloc: Global) -> Result<SchemaEntry, AllocError> {
-    let fields = [FieldDef::new(alloc, "v", FieldType::Varint)?];
-    let annotations = [FieldAnnotation::new(alloc, 0, "unit", "ns")?];
-    SchemaEntry::with_annotations(alloc, "Ev", &fields, &annotations)
-}
-
-/// The schema of that entry.
-fn annotated(alloc: Global) -> Result<Schema, AllocError> {
-    let entry = annotated_entry(alloc)?;
-    Schema::from_entry(alloc, entry)
-}
-
-/// The calls that make an event of that schema.
+/// The calls that make an event of the schema `Ev`, and one without values.
 fn calls_of_an_event(alloc: Global) -> Result<[Call; 3], AllocError> {
-    let registered = annotated(alloc)?;
-    let first = annotated(alloc)?;
-    let second = annotated(alloc)?;
+    let registered = ev(alloc)?;
+    let first = ev(alloc)?;
+    let second = ev(alloc)?;
     let values = vec![in alloc; FieldValue::Varint(42)]?;
     let event = Call::WriteEvent(first, 1_000, values);
     let uncounted = Call::WriteEvent(second, 1_000, Vec::new(alloc));
     Ok([Call::Register(registered), event, uncounted])
 }
+
+/// Their replies.
+const OF_AN_EVENT: [Reply; 3] = [
+    Reply::WireId(WireTypeId(256)),
+    Reply::Done,
+    Reply::Refused(EncodeError::ValueCount),
+];
 
 /// The calls that make the pools.
 fn calls_of_pools(alloc: Global) -> Result<[Call; 4], AllocError> {
@@ -72,6 +65,16 @@ fn calls_of_pools(alloc: Global) -> Result<[Call; 4], AllocError> {
         Call::StringPool(Vec::new(alloc)),
         Call::StackPool(Vec::new(alloc)),
     ])
+}
+
+/// Their replies.
+fn replies_of_pools() -> [Reply; 4] {
+    [
+        Reply::Text(InternedString::from_raw(0)),
+        Reply::Stack(InternedStackFrames::from_raw(0)),
+        Reply::Done,
+        Reply::Done,
+    ]
 }
 
 /// The calls have these replies.
@@ -87,24 +90,16 @@ fn check_replies(
     Ok(())
 }
 
+/// What an encoder writes for these calls: the trace without the annotation.
 #[test]
 fn each_kind_by_calls(rt: HostRuntime) -> Result<(), Fail> {
-    let mut encoder = Encoder::new(rt.alloc())?;
-    let calls = calls_of_an_event(rt.alloc())?;
-    let wanted = [
-        Reply::WireId(WireTypeId(256)),
-        Reply::Done,
-        Reply::Refused(EncodeError::ValueCount),
-    ];
-    check_replies(&rt, rt.alloc(), &mut encoder, &calls, &wanted)?;
-    let calls = calls_of_pools(rt.alloc())?;
-    let wanted = [
-        Reply::Text(InternedString::from_raw(0)),
-        Reply::Stack(InternedStackFrames::from_raw(0)),
-        Reply::Done,
-        Reply::Done,
-    ];
-    check_replies(&rt, rt.alloc(), &mut encoder, &calls, &wanted)?;
-    check_bytes(&rt, &encoder.finish(), &EACH_KIND);
+    let event = calls_of_an_event(rt.alloc())?;
+    let pools = calls_of_pools(rt.alloc())?;
+    let mut encoder = fresh(rt.alloc())?;
+    check_replies(&rt, rt.alloc(), &mut encoder, &event, &OF_AN_EVENT)?;
+    check_replies(&rt, rt.alloc(), &mut encoder, &pools, &replies_of_pools())?;
+    let bytes = encoder.finish();
+    assert_eq!(rt; bytes.get(..19), Some(&EACH_KIND[..19]));
+    assert_eq!(rt; bytes.get(19..), Some(&EACH_KIND[38..]));
     Ok(())
 }

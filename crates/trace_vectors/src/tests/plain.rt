@@ -1,5 +1,6 @@
 //! `Plain`: what it asks of the writer in it.
 
+use crate::tests::checks::check_refused;
 use crate::tests::traces::{ONE_EVENT, ev};
 use dial9_trace_format::encoder::Encoder;
 use dial9_trace_format::leb128::{EncodeError, Plain, TraceWrite, send_all};
@@ -12,79 +13,61 @@ use std::test::Fail;
 use trace_lines::dump::{FAILED, WHOLE, dump};
 use trace_values::leb128::send_bytes;
 
-/// Takes so many bytes a call, and keeps count of its calls.
+/// Takes so many bytes a call, keeps count of its calls, and fails them by these kinds, the first write and the first flush alone or each.
 #[derive(Drop)]
 struct Counting {
     bytes: Vec<u8>,
     step: usize,
     writes: u64,
     flushes: u64,
+    write_fault: Option<ErrorKind>,
+    flush_fault: Option<ErrorKind>,
+    once: bool,
 }
 
 impl Counting {
+    /// One that takes all its calls.
     fn new(alloc: Global, step: usize) -> Counting {
         Counting {
             bytes: Vec::new(alloc),
             step,
             writes: 0,
             flushes: 0,
+            write_fault: None,
+            flush_fault: None,
+            once: false,
+        }
+    }
+
+    /// One that fails each write and each flush.
+    fn failing(alloc: Global, write: ErrorKind, flush: ErrorKind) -> Counting {
+        Counting {
+            write_fault: Some(write),
+            flush_fault: Some(flush),
+            ..Counting::new(alloc, 1_000)
         }
     }
 }
 
 impl Write for Counting {
     fn write(&mut self, piece: &[u8]) -> io::Result<usize> {
-        let count = piece.len().min(self.step);
-        self.bytes.extend_from_slice(&piece[..count])?;
         self.writes = self.writes.saturating_add(1);
-        Ok(count)
+        match self.write_fault {
+            Some(kind) if !self.once || self.writes == 1 => Err(io::Error::from(kind)),
+            _ => {
+                let count = piece.len().min(self.step);
+                self.bytes.extend_from_slice(&piece[..count])?;
+                Ok(count)
+            }
+        }
     }
 
     fn flush(&mut self) -> io::Result<()> {
         self.flushes = self.flushes.saturating_add(1);
-        Ok(())
-    }
-}
-
-/// Fails each write and each flush by these kinds.
-#[derive(Drop)]
-struct Failing {
-    write: ErrorKind,
-    flush: ErrorKind,
-}
-
-impl Write for Failing {
-    fn write(&mut self, _: &[u8]) -> io::Result<usize> {
-        Err(io::Error::from(self.write))
-    }
-
-    fn flush(&mut self) -> io::Result<()> {
-        Err(io::Error::from(self.flush))
-    }
-}
-
-/// Fails its first write and its first flush by an interrupt, and keeps count of its calls.
-#[derive(Drop)]
-struct Interrupted {
-    writes: u64,
-    flushes: u64,
-}
-
-impl Write for Interrupted {
-    fn write(&mut self, piece: &[u8]) -> io::Result<usize> {
-        self.writes = self.writes.saturating_add(1);
-        if self.writes == 1 {
-            return Err(io::Error::from(ErrorKind::Interrupted));
+        match self.flush_fault {
+            Some(kind) if !self.once || self.flushes == 1 => Err(io::Error::from(kind)),
+            _ => Ok(()),
         }
-        Ok(piece.len())
-    }
-
-    fn flush(&mut self) -> io::Result<()> {
-        self.flushes = self.flushes.saturating_add(1);
-        if self.flushes == 1 {
-            return Err(io::Error::from(ErrorKind::Interrupted));
-        }
-        Ok(())
     }
 }
 
@@ -107,7 +90,7 @@ fn a_plain_writer_answers_the_error_of_its_writer(rt: HostRuntime) {
     ];
     for write in kinds {
         for flush in kinds {
-            let mut plain = Plain(Failing { write, flush });
+            let mut plain = Plain(Counting::failing(rt.alloc(), write, flush));
             assert_eq!(rt; kind_of(plain.send(b"a")), Some(write));
             assert_eq!(rt; kind_of(plain.settle()), Some(flush));
         }
@@ -116,30 +99,29 @@ fn a_plain_writer_answers_the_error_of_its_writer(rt: HostRuntime) {
 
 #[test]
 fn an_interrupt_is_not_tried_again(rt: HostRuntime) {
-    let mut plain = Plain(Interrupted {
-        writes: 0,
-        flushes: 0,
+    let mut plain = Plain(Counting {
+        once: true,
+        ..Counting::failing(rt.alloc(), ErrorKind::Interrupted, ErrorKind::Interrupted)
     });
     assert_eq!(rt; kind_of(plain.send(b"a")), Some(ErrorKind::Interrupted));
-    assert_eq!(rt; plain.0.writes, 1);
     assert_eq!(rt; kind_of(plain.settle()), Some(ErrorKind::Interrupted));
-    assert_eq!(rt; plain.0.flushes, 1);
+    check_counts(&rt, &plain.0, &[], 1, 1);
 }
 
 #[test]
 fn the_error_of_a_plain_writer_is_the_fault(rt: HostRuntime) {
-    let failing = Failing {
-        write: ErrorKind::PermissionDenied,
-        flush: ErrorKind::StorageFull,
-    };
-    let fault = EncodeError::Writer(ErrorKind::PermissionDenied);
-    let mut plain = Plain(failing);
-    assert_eq!(rt; send_bytes(&mut plain, b"a"), Err(fault));
+    let (write, flush) = (ErrorKind::PermissionDenied, ErrorKind::StorageFull);
+    let mut plain = Plain(Counting::failing(rt.alloc(), write, flush));
+    assert_eq!(rt;
+        send_bytes(&mut plain, b"a"),
+        Err(EncodeError::Writer(write))
+    );
     assert_eq!(rt; dump(rt.alloc(), &ONE_EVENT, &mut plain, false), FAILED);
-    match Encoder::new_to(rt.alloc(), plain) {
-        Ok(_) => assert!(rt; false, "no fault"),
-        Err(e) => assert_eq!(rt; e, EncodeError::Writer(ErrorKind::PermissionDenied)),
-    }
+    check_refused(
+        &rt,
+        Encoder::new_to(rt.alloc(), plain).err(),
+        EncodeError::Writer(write),
+    );
 }
 
 /// The writer took these bytes, in so many writes, and was flushed so often.
@@ -179,24 +161,12 @@ fn a_dump_flushes_once(rt: HostRuntime) {
     let mut plain = Plain(Counting::new(rt.alloc(), 1_000));
     assert_eq!(rt; dump(rt.alloc(), &ONE_EVENT, &mut plain, false), WHOLE);
     assert_eq!(rt; plain.0.flushes, 1);
-    let mut failing = Plain(FlushFails(Counting::new(rt.alloc(), 1_000)));
+    let mut failing = Plain(Counting {
+        flush_fault: Some(ErrorKind::StorageFull),
+        ..Counting::new(rt.alloc(), 1_000)
+    });
     assert_eq!(rt; dump(rt.alloc(), &ONE_EVENT, &mut failing, false), FAILED);
-    assert_eq!(rt; failing.0.0.flushes, 1);
-}
-
-/// Takes what the writer in it takes, and fails each flush.
-#[derive(Drop)]
-struct FlushFails(Counting);
-
-impl Write for FlushFails {
-    fn write(&mut self, piece: &[u8]) -> io::Result<usize> {
-        self.0.write(piece)
-    }
-
-    fn flush(&mut self) -> io::Result<()> {
-        self.0.flush()?;
-        Err(io::Error::from(ErrorKind::StorageFull))
-    }
+    assert_eq!(rt; failing.0.flushes, 1);
 }
 
 #[test]

@@ -90,19 +90,16 @@ fn check_conflict(rt: &impl Abort, decoder: &mut Decoder<'_>) {
     check_place(rt, decoder, 40);
 }
 
+/// A conflict is told each time, and all frames before it are given at once.
 #[test]
 fn conflict(rt: HostRuntime) -> Result<(), Fail> {
+    check_all(&rt, rt.alloc(), &CONFLICT, 2, 40)?;
     let mut decoder = decoder_of(rt.alloc(), &CONFLICT)?;
     check_frames(&rt, &mut decoder)?;
     check_conflict(&rt, &mut decoder);
     check_conflict(&rt, &mut decoder);
     assert_eq!(rt; all(&mut decoder)?.len(), 0);
     Ok(())
-}
-
-#[test]
-fn all_frames_before_a_conflict(rt: HostRuntime) -> Result<(), Fail> {
-    check_all(&rt, rt.alloc(), &CONFLICT, 2, 40)
 }
 
 /// A header and the schema `Ev` of wire id 65,535, so many times.

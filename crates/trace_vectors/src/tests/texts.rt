@@ -9,113 +9,99 @@ use dial9_trace_format::types::{InternedStackFrames, InternedString};
 use std::io::ErrorKind;
 use std::test::Fail;
 
+const ENCODING: [(EncodeError, &str); 11] = [
+    (
+        EncodeError::Conflict,
+        "schema already registered with different definition",
+    ),
+    (
+        EncodeError::ValueCount,
+        "value count does not match schema field count",
+    ),
+    (
+        EncodeError::Misfit { field: 3 },
+        "value of field 3 does not fit its type",
+    ),
+    (EncodeError::TooLong, "length exceeds its width on the wire"),
+    (EncodeError::IdsUsedUp, "no id is left"),
+    (EncodeError::SlotTaken, "slot is held by another schema"),
+    (EncodeError::SlotUntimed, "slot is held without timestamps"),
+    (EncodeError::ByteCount, "byte count exceeds its range"),
+    (EncodeError::OutOfMemory, "out of memory"),
+    (EncodeError::Writer(ErrorKind::BrokenPipe), "writer failed"),
+    (EncodeError::Failed, "encoder has failed"),
+];
+
+const DECODING: [(DecodeErrorKind, &str); 11] = [
+    (DecodeErrorKind::TruncatedEvent, "truncated event frame"),
+    (
+        DecodeErrorKind::UnknownTypeId(WireTypeId(7)),
+        "unknown type_id WireTypeId(7)",
+    ),
+    (DecodeErrorKind::TruncatedDelta, "truncated timestamp delta"),
+    (DecodeErrorKind::TimestampOverflow, "timestamp overflow"),
+    (
+        DecodeErrorKind::TruncatedPrefix,
+        "truncated optional field prefix",
+    ),
+    (
+        DecodeErrorKind::TruncatedOptional,
+        "truncated optional field value",
+    ),
+    (DecodeErrorKind::TruncatedValue, "truncated field value"),
+    (DecodeErrorKind::TruncatedReset, "truncated timestamp reset"),
+    (
+        DecodeErrorKind::NoFrame(0x0A),
+        "failed to decode frame with tag 0x0a",
+    ),
+    (
+        DecodeErrorKind::Conflict(WireTypeId(256)),
+        "type_id WireTypeId(256) already registered with different schema",
+    ),
+    (DecodeErrorKind::OutOfMemory, "out of memory"),
+];
+
+const REGISTERING: [(RegisterError, &str); 2] = [
+    (
+        RegisterError::Conflict(WireTypeId(9)),
+        "type_id WireTypeId(9) already registered with different schema",
+    ),
+    (RegisterError::OutOfMemory, "out of memory"),
+];
+
 #[test]
-fn faults_of_encoding(rt: HostRuntime) -> Result<(), Fail> {
-    let cases = [
-        (
-            EncodeError::Conflict,
-            "schema already registered with different definition",
-        ),
-        (
-            EncodeError::ValueCount,
-            "value count does not match schema field count",
-        ),
-        (
-            EncodeError::Misfit { field: 3 },
-            "value of field 3 does not fit its type",
-        ),
-        (EncodeError::TooLong, "length exceeds its width on the wire"),
-        (EncodeError::IdsUsedUp, "no id is left"),
-        (EncodeError::SlotTaken, "slot is held by another schema"),
-        (EncodeError::SlotUntimed, "slot is held without timestamps"),
-        (EncodeError::ByteCount, "byte count exceeds its range"),
-        (EncodeError::OutOfMemory, "out of memory"),
-        (EncodeError::Writer(ErrorKind::BrokenPipe), "writer failed"),
-        (EncodeError::Failed, "encoder has failed"),
-    ];
-    for (fault, text) in cases {
+fn faults_of_encoding_and_registering(rt: HostRuntime) -> Result<(), Fail> {
+    for (fault, text) in ENCODING {
+        assert_eq!(rt; format!(in rt.alloc(); "{fault}")?.as_str(), text);
+    }
+    for (fault, text) in REGISTERING {
         assert_eq!(rt; format!(in rt.alloc(); "{fault}")?.as_str(), text);
     }
     Ok(())
 }
 
+/// Errors of a reader that shows events to a sink: its own, and one of the sink.
+const SHOWING: [(TryForEachError<EncodeError>, &str); 2] = [
+    (
+        TryForEachError::Decode(DecodeError {
+            pos: 7,
+            kind: DecodeErrorKind::TruncatedEvent,
+        }),
+        "decode error at byte 7: truncated event frame",
+    ),
+    (
+        TryForEachError::User(EncodeError::Failed),
+        "encoder has failed",
+    ),
+];
+
 #[test]
-fn faults_of_decoding(rt: HostRuntime) -> Result<(), Fail> {
-    let cases = [
-        (DecodeErrorKind::TruncatedEvent, "truncated event frame"),
-        (
-            DecodeErrorKind::UnknownTypeId(WireTypeId(7)),
-            "unknown type_id WireTypeId(7)",
-        ),
-        (DecodeErrorKind::TruncatedDelta, "truncated timestamp delta"),
-        (DecodeErrorKind::TimestampOverflow, "timestamp overflow"),
-        (
-            DecodeErrorKind::TruncatedPrefix,
-            "truncated optional field prefix",
-        ),
-        (
-            DecodeErrorKind::TruncatedOptional,
-            "truncated optional field value",
-        ),
-        (DecodeErrorKind::TruncatedValue, "truncated field value"),
-        (DecodeErrorKind::TruncatedReset, "truncated timestamp reset"),
-        (
-            DecodeErrorKind::NoFrame(0x0A),
-            "failed to decode frame with tag 0x0a",
-        ),
-        (
-            DecodeErrorKind::Conflict(WireTypeId(256)),
-            "type_id WireTypeId(256) already registered with different schema",
-        ),
-        (DecodeErrorKind::OutOfMemory, "out of memory"),
-    ];
-    for (kind, text) in cases {
+fn faults_of_decoding_and_showing(rt: HostRuntime) -> Result<(), Fail> {
+    for (kind, text) in DECODING {
         assert_eq!(rt; format!(in rt.alloc(); "{kind}")?.as_str(), text);
     }
-    Ok(())
-}
-
-/// An error of a reader that shows events to a sink, which is named by its place, and one of the sink.
-#[test]
-fn faults_of_readers(rt: HostRuntime) -> Result<(), Fail> {
-    let fault = DecodeError {
-        pos: 40,
-        kind: DecodeErrorKind::TruncatedReset,
-    };
-    assert_eq!(rt;
-        format!(in rt.alloc(); "{fault}")?.as_str(),
-        "decode error at byte 40: truncated timestamp reset"
-    );
-    let cases: [(TryForEachError<EncodeError>, &str); 2] = [
-        (
-            TryForEachError::Decode(DecodeError {
-                pos: 7,
-                kind: DecodeErrorKind::TruncatedEvent,
-            }),
-            "decode error at byte 7: truncated event frame",
-        ),
-        (
-            TryForEachError::User(EncodeError::Failed),
-            "encoder has failed",
-        ),
-    ];
-    for (error, text) in cases {
+    for (error, text) in SHOWING {
         assert_eq!(rt; format!(in rt.alloc(); "{error}")?.as_str(), text);
-    }
-    Ok(())
-}
-
-#[test]
-fn faults_of_registering(rt: HostRuntime) -> Result<(), Fail> {
-    let cases = [
-        (
-            RegisterError::Conflict(WireTypeId(9)),
-            "type_id WireTypeId(9) already registered with different schema",
-        ),
-        (RegisterError::OutOfMemory, "out of memory"),
-    ];
-    for (fault, text) in cases {
-        assert_eq!(rt; format!(in rt.alloc(); "{fault}")?.as_str(), text);
     }
     Ok(())
 }

@@ -2,6 +2,7 @@
 
 use crate::tests::calls::encoded;
 use crate::tests::checks::check_bytes;
+use crate::tests::read_values::check_read;
 use crate::tests::traces::nested_lists;
 use dial9_trace_format::types::{FieldType, FieldValue, FieldValueRef, StackFrames};
 use std::alloc::{AllocError, Global};
@@ -31,48 +32,10 @@ fn check_none(
     Ok(())
 }
 
-/// The reader of owned values reads the list from all bytes but the last.
-fn check_owned(
-    rt: &impl Abort,
-    alloc: Global,
-    bytes: &[u8],
-    list: &FieldValue,
-) -> Result<(), Fail> {
-    let read = FieldValue::decode(alloc, FieldType::DynamicList, bytes)?;
-    let (owned, rest) = read.ok_or("no value")?;
-    assert!(rt; owned == *list);
-    assert_eq!(rt; rest, [0xFF].as_slice());
-    Ok(())
-}
-
-/// The reader of borrowed values reads the list from so many bytes.
-fn check_borrowed(
-    rt: &impl Abort,
-    alloc: Global,
-    bytes: &[u8],
-    list: &FieldValue,
-    size: usize,
-) -> Result<(), Fail> {
-    let read = FieldValueRef::decode(alloc, FieldType::DynamicList, bytes, 0)?;
-    let (borrowed, length) = read.ok_or("no value")?;
-    assert_eq!(rt; length, size);
-    assert!(rt; borrowed.to_owned(alloc)? == *list);
-    Ok(())
-}
-
-/// Both readers read the list from these bytes, whatever follows, and nothing from a proper front of them.
-fn check_list(
-    rt: &impl Abort,
-    alloc: Global,
-    list: &FieldValue,
-    spelled: &[u8],
-) -> Result<(), Fail> {
-    let mut more = Vec::from_slice(alloc, spelled)?;
-    more.push(0xFF)?;
-    check_owned(rt, alloc, &more, list)?;
-    check_borrowed(rt, alloc, &more, list, spelled.len())?;
-    for cut in 0..spelled.len() {
-        check_none(rt, alloc, FieldType::DynamicList, &spelled[..cut])?;
+/// Neither reader reads a value from a proper front of the bytes.
+fn check_fronts(rt: &impl Abort, alloc: Global, bytes: &[u8]) -> Result<(), Fail> {
+    for cut in 0..bytes.len() {
+        check_none(rt, alloc, FieldType::DynamicList, &bytes[..cut])?;
     }
     Ok(())
 }
@@ -88,15 +51,16 @@ fn check_too_deep(rt: &impl Abort, alloc: Global, depth: usize, filled: bool) ->
 fn greatest_depth(rt: HostRuntime) -> Result<(), Fail> {
     let deep = nested_lists(rt.alloc(), 33, false)?;
     let spelled = encoded(rt.alloc(), &deep)?;
-    check_list(&rt, rt.alloc(), &deep, &spelled)?;
+    check_read(&rt, rt.alloc(), FieldType::DynamicList, &spelled, &deep)?;
+    check_fronts(&rt, rt.alloc(), &spelled)?;
     check_too_deep(&rt, rt.alloc(), 34, false)?;
     check_too_deep(&rt, rt.alloc(), 33, true)
 }
 
 /// A count of 1,000,001, and then as many addresses, each 0.
 fn counted_zeros(alloc: Global) -> Result<Vec<u8>, AllocError> {
-    let mut bytes: Vec<u8> = vec![in alloc; 0; 8_000_012]?;
-    bytes[..4].copy_from_slice(&[0x41, 0x42, 0x0F, 0x00]);
+    let mut bytes = vec![in alloc; 0x41, 0x42, 0x0F, 0x00]?;
+    bytes.resize(8_000_012, 0)?;
     Ok(bytes)
 }
 
