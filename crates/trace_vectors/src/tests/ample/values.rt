@@ -1,6 +1,6 @@
 //! Values that have a size.
 
-use crate::tests::ample::{MILLION, SIZED, SIZES, spelled_length, text, value};
+use crate::tests::ample::{MILLION, SIZED, SIZES, pairs_of_texts, spelled_length, text, value};
 use crate::tests::calls::encoded;
 use dial9_trace_format::leb128::EncodeError;
 use dial9_trace_format::types::{
@@ -128,18 +128,9 @@ fn addresses(alloc: Global, size: usize) -> Result<Vec<u8>, EncodeError> {
     Ok(out)
 }
 
-/// So many pairs of empty texts.
-fn empty_pairs(alloc: Global, count: usize) -> Result<Vec<(String, String)>, AllocError> {
-    let mut pairs = Vec::new(alloc);
-    for _ in 0..count {
-        pairs.push((String::new(alloc), String::new(alloc)))?;
-    }
-    Ok(pairs)
-}
-
 /// Pairs of texts, written by their own call.
 fn texts_by_texts(alloc: Global, count: usize) -> Result<Vec<u8>, EncodeError> {
-    let pairs = empty_pairs(alloc, count)?;
+    let pairs = pairs_of_texts(alloc, count)?;
     let mut out = Vec::new(alloc);
     EventEncoder::new(&mut out).write_string_map(&pairs)?;
     Ok(out)
