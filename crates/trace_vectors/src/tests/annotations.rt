@@ -2,7 +2,7 @@
 
 use crate::tests::calls::{all, decoder_of, next_one};
 use dial9_trace_format::codec::WireTypeId;
-use dial9_trace_format::decoder::DecodedFrame;
+use dial9_trace_format::decoder::{DecodedFrame, Decoder};
 use dial9_trace_format::schema::{FieldAnnotation, SchemaRegistry};
 use std::process::Abort;
 use std::test::Fail;
@@ -73,13 +73,18 @@ fn check_frames(rt: &impl Abort, frames: &[DecodedFrame]) {
     }
 }
 
+/// The decoder gives those three frames, one by one.
+fn check_one_by_one(rt: &impl Abort, decoder: &mut Decoder<'_>) -> Result<(), Fail> {
+    check_bare(rt, &next_one(decoder)?);
+    check_annotations(rt, &next_one(decoder)?);
+    check_bare(rt, &next_one(decoder)?);
+    Ok(())
+}
+
 #[test]
 fn schemas_are_given_without_annotations(rt: HostRuntime) -> Result<(), Fail> {
     let mut decoder = decoder_of(rt.alloc(), &ANNOTATED)?;
-    let first = next_one(&mut decoder)?;
-    let annotations = next_one(&mut decoder)?;
-    let last = next_one(&mut decoder)?;
-    check_frames(&rt, &[first, annotations, last]);
+    check_one_by_one(&rt, &mut decoder)?;
     check_registry(&rt, decoder.registry())
 }
 

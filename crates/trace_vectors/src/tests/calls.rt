@@ -1,7 +1,7 @@
 //! Calls of encoders and decoders that promise nothing, so that proofs of tests that make many of them stay small.
 
 use dial9_trace_format::TraceEvent;
-use dial9_trace_format::codec::{PoolEntry, StackPoolEntry, WireTypeId};
+use dial9_trace_format::codec::WireTypeId;
 use dial9_trace_format::decoder::{DecodedFrame, Decoder};
 use dial9_trace_format::encoder::{Call, Encoder, Reply, Schema, run_calls};
 use dial9_trace_format::leb128::EncodeError;
@@ -26,16 +26,6 @@ pub fn intern_stack(
     addresses: &[u64],
 ) -> Result<InternedStackFrames, EncodeError> {
     encoder.intern_stack_frames(addresses)
-}
-
-/// `Encoder::write_string_pool`.
-pub fn put_strings(encoder: &mut Encoder, entries: &[PoolEntry]) -> Result<(), EncodeError> {
-    encoder.write_string_pool(entries)
-}
-
-/// `Encoder::write_stack_pool`.
-pub fn put_stacks(encoder: &mut Encoder, entries: &[StackPoolEntry]) -> Result<(), EncodeError> {
-    encoder.write_stack_pool(entries)
 }
 
 /// `Encoder::register_existing`.

@@ -56,6 +56,14 @@ const OF_AN_EVENT: [Reply; 3] = [
     Reply::Refused(EncodeError::ValueCount),
 ];
 
+/// The encoder makes those calls, and has those replies.
+fn check_event(rt: &impl Abort, alloc: Global, encoder: &mut Encoder) -> Result<(), Fail> {
+    let calls = calls_of_an_event(alloc)?;
+    let replies = run(alloc, encoder, &calls)?;
+    assert_eq!(rt; replies.as_slice(), OF_AN_EVENT.as_slice());
+    Ok(())
+}
+
 /// The calls that make the pools.
 fn calls_of_pools(alloc: Global) -> Result<[Call; 4], AllocError> {
     let text = String::from_str(alloc, "hello")?;
@@ -67,37 +75,26 @@ fn calls_of_pools(alloc: Global) -> Result<[Call; 4], AllocError> {
     ])
 }
 
-/// Their replies.
-fn replies_of_pools() -> [Reply; 4] {
-    [
+/// The encoder makes those calls, and has their replies.
+fn check_pools(rt: &impl Abort, alloc: Global, encoder: &mut Encoder) -> Result<(), Fail> {
+    let calls = calls_of_pools(alloc)?;
+    let replies = run(alloc, encoder, &calls)?;
+    let wanted = [
         Reply::Text(InternedString::from_raw(0)),
         Reply::Stack(InternedStackFrames::from_raw(0)),
         Reply::Done,
         Reply::Done,
-    ]
-}
-
-/// The calls have these replies.
-fn check_replies(
-    rt: &impl Abort,
-    alloc: Global,
-    encoder: &mut Encoder,
-    calls: &[Call],
-    wanted: &[Reply],
-) -> Result<(), Fail> {
-    let replies = run(alloc, encoder, calls)?;
-    assert_eq!(rt; replies.as_slice(), wanted);
+    ];
+    assert_eq!(rt; replies.as_slice(), wanted.as_slice());
     Ok(())
 }
 
 /// What an encoder writes for these calls: the trace without the annotation.
 #[test]
 fn each_kind_by_calls(rt: HostRuntime) -> Result<(), Fail> {
-    let event = calls_of_an_event(rt.alloc())?;
-    let pools = calls_of_pools(rt.alloc())?;
     let mut encoder = fresh(rt.alloc())?;
-    check_replies(&rt, rt.alloc(), &mut encoder, &event, &OF_AN_EVENT)?;
-    check_replies(&rt, rt.alloc(), &mut encoder, &pools, &replies_of_pools())?;
+    check_event(&rt, rt.alloc(), &mut encoder)?;
+    check_pools(&rt, rt.alloc(), &mut encoder)?;
     let bytes = encoder.finish();
     assert_eq!(rt; bytes.get(..19), Some(&EACH_KIND[..19]));
     assert_eq!(rt; bytes.get(19..), Some(&EACH_KIND[38..]));

@@ -1,8 +1,8 @@
 //! Events of event types: of values of each size, many of one type, and many of several types in turn.
 
 use crate::tests::ample::borrowed::{check_at_once, check_events};
-use crate::tests::ample::traces::{check_trace, check_whole_dump};
-use crate::tests::ample::{COUNTS, MILLION, SIZES, spelled_length, text, value};
+use crate::tests::ample::traces::{check_read, check_trace, check_whole_dump};
+use crate::tests::ample::{COUNTS, MILLION, SIZES, pairs_of_texts, spelled_length, text, value};
 use crate::tests::calls::{all_of, intern, put};
 use dial9_trace_format::TraceEvent;
 use dial9_trace_format::encoder::Encoder;
@@ -29,7 +29,7 @@ fn events<T: TraceEvent>(alloc: Global, event: &T, count: usize) -> Result<Vec<u
 
 /// The event of this type is written so many times and read; before the first stands its schema, of so many bytes and frames, and each
 /// event has so many bytes. The trace.
-fn check_read<T: TraceEvent>(
+fn check_trace_of<T: TraceEvent>(
     rt: &impl Abort,
     alloc: Global,
     event: &T,
@@ -57,7 +57,7 @@ fn check_count<T: TraceEvent>(
     schema: (u64, usize),
     each: u64,
 ) -> Result<(), Fail> {
-    let bytes = check_read(rt, alloc, event, count, schema, each)?;
+    let bytes = check_trace_of(rt, alloc, event, count, schema, each)?;
     check_whole_dump(rt, alloc, &bytes);
     Ok(())
 }
@@ -99,81 +99,66 @@ fn many_events_of_a_slot_and_of_a_name(rt: HostRuntime) -> Result<(), Fail> {
 }
 
 /// Numbers, all of them 0.
-fn numbers() -> Numbers {
-    Numbers {
-        time: 0,
-        byte: 0,
-        short: 0,
-        word: 0,
-        long: 0,
-        signed: 0,
-        real: F64Bits(0),
-        flag: false,
-    }
-}
+const NUMBERS: Numbers = Numbers {
+    time: 0,
+    byte: 0,
+    short: 0,
+    word: 0,
+    long: 0,
+    signed: 0,
+    real: F64Bits(0),
+    flag: false,
+};
 
 /// Options, none of them there.
-fn options() -> Options {
-    Options {
-        time: 0,
-        byte: None,
-        short: None,
-        word: None,
-        long: None,
-        signed: None,
-        real: None,
-        flag: None,
-        text: None,
-        blob: None,
-        frames: None,
-        label: None,
-        stack: None,
-        pairs: None,
-    }
-}
+const OPTIONS: Options = Options {
+    time: 0,
+    byte: None,
+    short: None,
+    word: None,
+    long: None,
+    signed: None,
+    real: None,
+    flag: None,
+    text: None,
+    blob: None,
+    frames: None,
+    label: None,
+    stack: None,
+    pairs: None,
+};
 
 /// Twenty numbers, all of them 0.
-fn wide() -> Wide {
-    Wide {
-        time: 0,
-        v0: 0,
-        v1: 0,
-        v2: 0,
-        v3: 0,
-        v4: 0,
-        v5: 0,
-        v6: 0,
-        v7: 0,
-        v8: 0,
-        v9: 0,
-        v10: 0,
-        v11: 0,
-        v12: 0,
-        v13: 0,
-        v14: 0,
-        v15: 0,
-        v16: 0,
-        v17: 0,
-        v18: 0,
-        v19: 0,
-    }
-}
+const WIDE: Wide = Wide {
+    time: 0,
+    v0: 0,
+    v1: 0,
+    v2: 0,
+    v3: 0,
+    v4: 0,
+    v5: 0,
+    v6: 0,
+    v7: 0,
+    v8: 0,
+    v9: 0,
+    v10: 0,
+    v11: 0,
+    v12: 0,
+    v13: 0,
+    v14: 0,
+    v15: 0,
+    v16: 0,
+    v17: 0,
+    v18: 0,
+    v19: 0,
+};
 
 #[test]
 fn many_events_of_many_fields(rt: HostRuntime) -> Result<(), Fail> {
     let alloc = rt.alloc();
-    check_counts(&rt, alloc, &numbers(), (67, 1), 31)?;
-    check_counts(&rt, alloc, &options(), (114, 1), 19)?;
-    check_counts(&rt, alloc, &wide(), (122, 1), 26)
-}
-
-/// So many pairs of empty texts.
-fn empty_pairs(alloc: Global, count: usize) -> Result<Vec<(String, String)>, AllocError> {
-    let mut pairs = Vec::new(alloc);
-    for _ in 0..count {
-        pairs.push((String::new(alloc), String::new(alloc)))?;
-    }
-    Ok(pairs)
+    check_counts(&rt, alloc, &NUMBERS, (67, 1), 31)?;
+    check_counts(&rt, alloc, &OPTIONS, (114, 1), 19)?;
+    check_counts(&rt, alloc, &WIDE, (122, 1), 26)
 }
 
 /// An event of a text, bytes and pairs of this size is written, read and dumped.
@@ -182,7 +167,7 @@ fn check_texts(rt: &impl Abort, alloc: Global, size: usize) -> Result<(), Fail> 
         time: 0,
         text: text(alloc, size)?,
         blob: vec![in alloc; 7; size]?,
-        pairs: empty_pairs(alloc, size)?,
+        pairs: pairs_of_texts(alloc, size)?,
     };
     let each = (size as u64).saturating_mul(10).saturating_add(18);
     check_count(rt, alloc, &event, 1, (35, 1), each)
@@ -212,11 +197,6 @@ fn stacks(alloc: Global, size: usize) -> Result<Stacks, AllocError> {
     })
 }
 
-/// How many bytes that event has.
-fn stacks_length(size: usize) -> u64 {
-    (size as u64).saturating_mul(8).saturating_add(14)
-}
-
 /// An event of a list and a map of this size, of at most 1,000,000 items each.
 fn dynamic(alloc: Global, size: usize) -> Result<Dynamic, AllocError> {
     Ok(Dynamic {
@@ -224,13 +204,6 @@ fn dynamic(alloc: Global, size: usize) -> Result<Dynamic, AllocError> {
         items: value(alloc, FieldType::DynamicList, size)?,
         table: value(alloc, FieldType::DynamicMap, size)?,
     })
-}
-
-/// How many bytes that event has.
-fn dynamic_length(size: usize) -> u64 {
-    let items = spelled_length(FieldType::DynamicList, size);
-    let pairs = spelled_length(FieldType::DynamicMap, size);
-    items.saturating_add(pairs).saturating_add(6)
 }
 
 #[test]
@@ -244,10 +217,14 @@ fn types_of_texts_of_each_size(rt: HostRuntime) -> Result<(), Fail> {
 
 /// An event of a stack of this size, and one of a list and a map, are written and read, and dumped where they are shorter than a million.
 fn check_lists(rt: &impl Abort, alloc: Global, size: usize) -> Result<(), Fail> {
+    let frames = spelled_length(FieldType::StackFrames, size);
+    let items = spelled_length(FieldType::DynamicList, size);
+    let pairs = spelled_length(FieldType::DynamicMap, size);
     let event = stacks(alloc, size)?;
-    let stacks = check_read(rt, alloc, &event, 1, (31, 1), stacks_length(size))?;
+    let stacks = check_trace_of(rt, alloc, &event, 1, (31, 1), frames.saturating_add(10))?;
     let event = dynamic(alloc, size)?;
-    let dynamic = check_read(rt, alloc, &event, 1, (31, 1), dynamic_length(size))?;
+    let each = items.saturating_add(pairs).saturating_add(6);
+    let dynamic = check_trace_of(rt, alloc, &event, 1, (31, 1), each)?;
     if size < MILLION {
         check_whole_dump(rt, alloc, &stacks);
         check_whole_dump(rt, alloc, &dynamic);
@@ -292,13 +269,8 @@ fn many_events_of_types_in_turn(rt: HostRuntime) -> Result<(), Fail> {
     for count in COUNTS {
         let bytes = rounds(rt.alloc(), count)?;
         let once = if count == 0 { 0 } else { 6 };
-        check_trace(
-            &rt,
-            rt.alloc(),
-            &bytes,
-            count.saturating_mul(4).saturating_add(once),
-        )?;
-        check_whole_dump(&rt, rt.alloc(), &bytes);
+        let frames = count.saturating_mul(4).saturating_add(once);
+        check_read(&rt, rt.alloc(), &bytes, frames)?;
     }
     Ok(())
 }

@@ -1,15 +1,15 @@
 //! Events: of values of each size, of each count of fields, and many of them.
 
 use crate::tests::ample::schemas::fields;
-use crate::tests::ample::traces::{check_trace, check_whole_dump};
+use crate::tests::ample::traces::{check_read, check_trace, check_whole_dump};
 use crate::tests::ample::{
     COUNTS, MILLION, SIZED, SIZES, empty_pairs, spelled_length, text, value,
 };
-use crate::tests::calls::{all_of, put_event, put_one, register, register_new, run};
+use crate::tests::calls::{all_of, fresh, put_event, put_one, register, register_new, run};
 use crate::tests::checks::check_refused;
 use crate::tests::traces::{ev, one_field};
 use dial9_trace_format::decoder::DecodedFrame;
-use dial9_trace_format::encoder::{Call, Encoder, Reply, Schema};
+use dial9_trace_format::encoder::{Call, Reply, Schema};
 use dial9_trace_format::leb128::EncodeError;
 use dial9_trace_format::types::{FieldType, FieldValue};
 use std::alloc::{AllocError, Global};
@@ -23,7 +23,7 @@ fn event(
     values: &[FieldValue],
 ) -> Result<Vec<u8>, EncodeError> {
     let schema = one_field(alloc, "K", "f", field_type)?;
-    let mut encoder = Encoder::new(alloc)?;
+    let mut encoder = fresh(alloc)?;
     put_event(&mut encoder, &schema, 0, values)?;
     Ok(encoder.finish())
 }
@@ -36,7 +36,7 @@ fn check_last(rt: &impl Abort, frames: &[DecodedFrame], wanted: &[FieldValue]) {
     }
 }
 
-/// An event of a value of this size is written, and read with that value.
+/// An event of a value of this size is written, and read with that value. It is dumped too, a million items only of bytes.
 fn check_sized(
     rt: &impl Abort,
     alloc: Global,
@@ -45,25 +45,13 @@ fn check_sized(
 ) -> Result<(), Fail> {
     let values = [value(alloc, field_type, size)?];
     let bytes = event(alloc, field_type, &values)?;
-    assert_eq!(rt;
-        bytes.len() as u64,
-        spelled_length(field_type, size).saturating_add(24)
-    );
+    let length = spelled_length(field_type, size).saturating_add(24);
+    assert_eq!(rt; bytes.len() as u64, length);
     check_last(rt, &all_of(alloc, &bytes)?, &values);
+    if size < MILLION || field_type == FieldType::Bytes {
+        check_whole_dump(rt, alloc, &bytes);
+    }
     check_trace(rt, alloc, &bytes, 2)
-}
-
-/// The event of a value of this size is dumped.
-fn check_dumped(
-    rt: &impl Abort,
-    alloc: Global,
-    field_type: FieldType,
-    size: usize,
-) -> Result<(), Fail> {
-    let values = [value(alloc, field_type, size)?];
-    let bytes = event(alloc, field_type, &values)?;
-    check_whole_dump(rt, alloc, &bytes);
-    Ok(())
 }
 
 #[test]
@@ -71,11 +59,10 @@ fn events_of_each_size(rt: HostRuntime) -> Result<(), Fail> {
     for field_type in SIZED {
         for size in SIZES {
             check_sized(&rt, rt.alloc(), field_type, size)?;
-            check_dumped(&rt, rt.alloc(), field_type, size)?;
         }
         check_sized(&rt, rt.alloc(), field_type, MILLION)?;
     }
-    check_dumped(&rt, rt.alloc(), FieldType::Bytes, MILLION)
+    Ok(())
 }
 
 #[test]
@@ -92,8 +79,7 @@ fn events_of_absent_values(rt: HostRuntime) -> Result<(), Fail> {
         let field_type = FieldType::from_tag(tag).ok_or("no type")?;
         let bytes = event(rt.alloc(), field_type, &[FieldValue::None])?;
         assert_eq!(rt; bytes.len(), 25);
-        check_trace(&rt, rt.alloc(), &bytes, 2)?;
-        check_whole_dump(&rt, rt.alloc(), &bytes);
+        check_read(&rt, rt.alloc(), &bytes, 2)?;
     }
     Ok(())
 }
@@ -109,7 +95,7 @@ fn absent(alloc: Global, count: usize) -> Result<Vec<FieldValue>, AllocError> {
 
 /// What an encoder writes for an event of so many fields.
 fn event_of_fields(alloc: Global, count: usize) -> Result<Vec<u8>, EncodeError> {
-    let mut encoder = Encoder::new(alloc)?;
+    let mut encoder = fresh(alloc)?;
     let fields = fields(alloc, count, FieldType::OptionalU8)?;
     let schema = register_new(&mut encoder, "F", fields)?;
     put_event(&mut encoder, &schema, 0, &absent(alloc, count)?)?;
@@ -121,9 +107,7 @@ fn check_fields(rt: &impl Abort, alloc: Global, count: usize) -> Result<(), Fail
     let bytes = event_of_fields(alloc, count)?;
     let length = (count as u64).saturating_mul(4).saturating_add(20);
     assert_eq!(rt; bytes.len() as u64, length);
-    check_trace(rt, alloc, &bytes, 2)?;
-    check_whole_dump(rt, alloc, &bytes);
-    Ok(())
+    check_read(rt, alloc, &bytes, 2)
 }
 
 #[test]
@@ -136,26 +120,11 @@ fn events_of_each_count_of_fields(rt: HostRuntime) -> Result<(), Fail> {
 
 /// What an encoder writes for so many events, each of a schema that is made anew.
 fn many_events(alloc: Global, count: usize) -> Result<Vec<u8>, EncodeError> {
-    let mut encoder = Encoder::new(alloc)?;
+    let mut encoder = fresh(alloc)?;
     for _ in 0..count {
         put_one(&mut encoder, &ev(alloc)?, 0, FieldValue::Varint(0))?;
     }
     Ok(encoder.finish())
-}
-
-#[test]
-fn many_events_of_one_schema(rt: HostRuntime) -> Result<(), Fail> {
-    for count in COUNTS {
-        let bytes = many_events(rt.alloc(), count)?;
-        let frames = if count == 0 {
-            0
-        } else {
-            count.saturating_add(1)
-        };
-        check_trace(&rt, rt.alloc(), &bytes, frames)?;
-        check_whole_dump(&rt, rt.alloc(), &bytes);
-    }
-    Ok(())
 }
 
 /// A schema without fields, named by this number.
@@ -166,21 +135,24 @@ fn numbered(alloc: Global, number: usize) -> Result<Schema, AllocError> {
 
 /// What an encoder writes for so many schemas.
 fn many_schemas(alloc: Global, count: usize) -> Result<Vec<u8>, EncodeError> {
-    let mut encoder = Encoder::new(alloc)?;
+    let mut encoder = fresh(alloc)?;
     for number in 0..count {
         let schema = numbered(alloc, number)?;
+        let copy = schema.clone()?;
         register(&mut encoder, &schema)?;
-        register(&mut encoder, &schema.clone()?)?;
+        register(&mut encoder, &copy)?;
     }
     Ok(encoder.finish())
 }
 
 #[test]
-fn many_schemas_of_one_encoder(rt: HostRuntime) -> Result<(), Fail> {
+fn many_events_and_many_schemas(rt: HostRuntime) -> Result<(), Fail> {
     for count in COUNTS {
-        let bytes = many_schemas(rt.alloc(), count)?;
-        check_trace(&rt, rt.alloc(), &bytes, count)?;
-        check_whole_dump(&rt, rt.alloc(), &bytes);
+        let events = many_events(rt.alloc(), count)?;
+        let schema = count.min(1);
+        check_read(&rt, rt.alloc(), &events, count.saturating_add(schema))?;
+        let schemas = many_schemas(rt.alloc(), count)?;
+        check_read(&rt, rt.alloc(), &schemas, count)?;
     }
     Ok(())
 }
@@ -189,7 +161,7 @@ fn many_schemas_of_one_encoder(rt: HostRuntime) -> Result<(), Fail> {
 fn schema_names_of_each_size(rt: HostRuntime) -> Result<(), Fail> {
     for size in [0, 1, 255, 256, 4_097, 65_535usize] {
         let name = text(rt.alloc(), size)?;
-        let mut encoder = Encoder::new(rt.alloc())?;
+        let mut encoder = fresh(rt.alloc())?;
         register_new(&mut encoder, name.as_str(), Vec::new(rt.alloc()))?;
         let bytes = encoder.finish();
         assert_eq!(rt; bytes.len(), size.saturating_add(13));
@@ -207,25 +179,16 @@ fn empty_texts(alloc: Global, count: usize) -> Result<Vec<Call>, AllocError> {
     Ok(calls)
 }
 
-/// Whether the call was refused.
-fn is_refused(reply: &Reply) -> bool {
-    match reply {
-        Reply::Refused(_) => true,
-        _ => false,
-    }
-}
-
 #[test]
 fn lists_of_calls_of_each_count(rt: HostRuntime) -> Result<(), Fail> {
     for count in SIZES {
         let calls = empty_texts(rt.alloc(), count)?;
-        let mut encoder = Encoder::new(rt.alloc())?;
+        let mut encoder = fresh(rt.alloc())?;
         let replies = run(rt.alloc(), &mut encoder, &calls)?;
         assert_eq!(rt; replies.len(), count);
-        assert_eq!(rt;
-            replies.iter().filter(|reply| is_refused(*reply)).count(),
-            0
-        );
+        for reply in &replies {
+            assert!(rt; !matches!(reply, Reply::Refused(_)));
+        }
     }
     Ok(())
 }

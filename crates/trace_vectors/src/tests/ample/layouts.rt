@@ -1,7 +1,7 @@
 //! Layouts of fields of each count: of fixed width, of open width, and both in turn.
 
 use crate::tests::ample::COUNTS;
-use crate::tests::ample::traces::{check_trace, check_whole_dump};
+use crate::tests::ample::traces::check_read;
 use crate::tests::calls::{put_event, register_new};
 use dial9_trace_format::codec::compile;
 use dial9_trace_format::encoder::Encoder;
@@ -51,8 +51,7 @@ fn check_layout(
     let layout = compile(alloc, &fields)?;
     assert_eq!(rt; layout.steps().len(), steps);
     let bytes = event(alloc, fields)?;
-    check_whole_dump(rt, alloc, &bytes);
-    check_trace(rt, alloc, &bytes, 2)
+    check_read(rt, alloc, &bytes, 2)
 }
 
 #[test]

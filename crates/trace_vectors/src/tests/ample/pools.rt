@@ -1,10 +1,8 @@
 //! Texts and stacks: of each size, many of them, and pools of each count.
 
-use crate::tests::ample::traces::{check_trace, check_whole_dump};
+use crate::tests::ample::traces::{check_read, check_whole_dump};
 use crate::tests::ample::{COUNTS, MILLION, SIZES, text};
-use crate::tests::calls::{
-    all, decoder_of, fresh, intern, intern_stack, put_one, put_stacks, put_strings,
-};
+use crate::tests::calls::{all, decoder_of, fresh, intern, intern_stack, put_one};
 use crate::tests::traces::one_field;
 use dial9_trace_format::codec::{PoolEntry, StackPoolEntry};
 use dial9_trace_format::encoder::Encoder;
@@ -64,8 +62,7 @@ fn held(alloc: Global, size: usize) -> Result<Vec<u8>, EncodeError> {
 fn check_sized(rt: &impl Abort, alloc: Global, size: usize) -> Result<(), Fail> {
     let bytes = sized(alloc, size)?;
     assert_eq!(rt; bytes.len(), size.saturating_mul(9).saturating_add(31));
-    check_trace(rt, alloc, &bytes, 2)?;
-    check_whole_dump(rt, alloc, &bytes);
+    check_read(rt, alloc, &bytes, 2)?;
     let bytes = held(alloc, size)?;
     check_whole_dump(rt, alloc, &bytes);
     Ok(())
@@ -89,37 +86,11 @@ fn intern_both(alloc: Global, encoder: &mut Encoder, number: usize) -> Result<()
 
 /// What an encoder writes for so many texts and stacks.
 fn many(alloc: Global, count: usize) -> Result<Vec<u8>, EncodeError> {
-    let mut encoder = Encoder::new(alloc)?;
+    let mut encoder = fresh(alloc)?;
     for number in 0..count {
         intern_both(alloc, &mut encoder, number)?;
     }
     Ok(encoder.finish())
-}
-
-/// The pools after all frames have so many texts and stacks.
-fn check_pools(
-    rt: &impl Abort,
-    alloc: Global,
-    bytes: &[u8],
-    texts: usize,
-    stacks: usize,
-) -> Result<(), Fail> {
-    let mut decoder = decoder_of(alloc, bytes)?;
-    all(&mut decoder)?;
-    assert_eq!(rt; decoder.string_pool().len(), texts);
-    assert_eq!(rt; decoder.stack_pool().len(), stacks);
-    Ok(())
-}
-
-#[test]
-fn many_texts_and_stacks(rt: HostRuntime) -> Result<(), Fail> {
-    for count in COUNTS {
-        let bytes = many(rt.alloc(), count)?;
-        check_trace(&rt, rt.alloc(), &bytes, count.saturating_mul(2))?;
-        check_pools(&rt, rt.alloc(), &bytes, count, count)?;
-        check_whole_dump(&rt, rt.alloc(), &bytes);
-    }
-    Ok(())
 }
 
 /// So many entries of the empty text.
@@ -148,20 +119,38 @@ fn stacks(alloc: Global, count: usize) -> Result<Vec<StackPoolEntry>, AllocError
 
 /// What an encoder writes for a pool of so many empty texts, and one of so many empty stacks.
 fn pools(alloc: Global, count: usize) -> Result<Vec<u8>, EncodeError> {
-    let mut encoder = Encoder::new(alloc)?;
-    put_strings(&mut encoder, &strings(alloc, count)?)?;
-    put_stacks(&mut encoder, &stacks(alloc, count)?)?;
+    let mut encoder = fresh(alloc)?;
+    let texts = strings(alloc, count)?;
+    encoder.write_string_pool(&texts)?;
+    let stacks = stacks(alloc, count)?;
+    encoder.write_stack_pool(&stacks)?;
     Ok(encoder.finish())
 }
 
+/// The trace is read as so many frames, and dumped; the pools have so many texts and so many stacks after it.
+fn check_pools(
+    rt: &impl Abort,
+    alloc: Global,
+    bytes: &[u8],
+    frames: usize,
+    count: usize,
+) -> Result<(), Fail> {
+    check_read(rt, alloc, bytes, frames)?;
+    let mut decoder = decoder_of(alloc, bytes)?;
+    let _frames = all(&mut decoder)?;
+    assert_eq!(rt; decoder.string_pool().len(), count);
+    assert_eq!(rt; decoder.stack_pool().len(), count);
+    Ok(())
+}
+
 #[test]
-fn pools_of_each_count(rt: HostRuntime) -> Result<(), Fail> {
+fn texts_and_stacks_of_each_count(rt: HostRuntime) -> Result<(), Fail> {
     for count in COUNTS {
-        let bytes = pools(rt.alloc(), count)?;
-        assert_eq!(rt; bytes.len(), count.saturating_mul(16).saturating_add(15));
-        check_trace(&rt, rt.alloc(), &bytes, 2)?;
-        check_pools(&rt, rt.alloc(), &bytes, count, count)?;
-        check_whole_dump(&rt, rt.alloc(), &bytes);
+        let interned = many(rt.alloc(), count)?;
+        check_pools(&rt, rt.alloc(), &interned, count.saturating_mul(2), count)?;
+        let pooled = pools(rt.alloc(), count)?;
+        assert_eq!(rt; pooled.len(), count.saturating_mul(16).saturating_add(15));
+        check_pools(&rt, rt.alloc(), &pooled, 2, count)?;
     }
     Ok(())
 }

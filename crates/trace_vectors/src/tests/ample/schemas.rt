@@ -167,21 +167,20 @@ fn check_registry(rt: &impl Abort, alloc: Global, ids: usize, count: usize) -> R
     Ok(())
 }
 
+/// A registry holds an entry of so many fields and annotations under the greatest wire id.
+fn check_greatest(rt: &impl Abort, alloc: Global, count: usize) -> Result<(), Fail> {
+    let mut registry = SchemaRegistry::new(alloc);
+    put(&mut registry, alloc, 65_535, count)?;
+    assert!(rt; registry.get(WireTypeId(65_535)).is_some());
+    Ok(())
+}
+
 #[test]
 fn registries_of_each_count(rt: HostRuntime) -> Result<(), Fail> {
     for count in COUNTS {
         check_registry(&rt, rt.alloc(), count, 0)?;
         check_registry(&rt, rt.alloc(), 1, count)?;
+        check_greatest(&rt, rt.alloc(), count)?;
     }
     check_registry(&rt, rt.alloc(), 65_536, 0)
-}
-
-#[test]
-fn greatest_wire_id(rt: HostRuntime) -> Result<(), Fail> {
-    for count in COUNTS {
-        let mut registry = SchemaRegistry::new(rt.alloc());
-        put(&mut registry, rt.alloc(), 65_535, count)?;
-        assert!(rt; registry.get(WireTypeId(65_535)).is_some());
-    }
-    Ok(())
 }

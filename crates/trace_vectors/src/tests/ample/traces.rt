@@ -54,3 +54,10 @@ pub fn check_whole_dump(rt: &impl Abort, alloc: Global, bytes: &[u8]) {
         assert!(rt; out.as_slice().ends_with(b"\nend whole\n"));
     }
 }
+
+/// The trace is read whole as so many frames, and its dump is whole.
+pub fn check_read(rt: &impl Abort, alloc: Global, bytes: &[u8], count: usize) -> Result<(), Fail> {
+    check_trace(rt, alloc, bytes, count)?;
+    check_whole_dump(rt, alloc, bytes);
+    Ok(())
+}

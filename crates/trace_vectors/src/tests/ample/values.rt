@@ -1,12 +1,10 @@
 //! Values that have a size.
 
-use crate::tests::ample::{MILLION, SIZED, SIZES, spelled_length, text, value};
+use crate::tests::ample::{MILLION, SIZED, SIZES, pairs_of_texts, spelled_length, text, value};
 use crate::tests::calls::encoded;
+use crate::tests::written_values::{write_ids, write_numbers};
 use dial9_trace_format::leb128::EncodeError;
-use dial9_trace_format::types::{
-    EventEncoder, F64Bits, FieldType, FieldValue, FieldValueRef, InternedStackFrames,
-    InternedString, StackFrames,
-};
+use dial9_trace_format::types::{EventEncoder, FieldType, FieldValue, FieldValueRef, StackFrames};
 use std::alloc::{AllocError, Global};
 use std::process::Abort;
 use std::test::Fail;
@@ -128,18 +126,9 @@ fn addresses(alloc: Global, size: usize) -> Result<Vec<u8>, EncodeError> {
     Ok(out)
 }
 
-/// So many pairs of empty texts.
-fn empty_pairs(alloc: Global, count: usize) -> Result<Vec<(String, String)>, AllocError> {
-    let mut pairs = Vec::new(alloc);
-    for _ in 0..count {
-        pairs.push((String::new(alloc), String::new(alloc)))?;
-    }
-    Ok(pairs)
-}
-
 /// Pairs of texts, written by their own call.
 fn texts_by_texts(alloc: Global, count: usize) -> Result<Vec<u8>, EncodeError> {
-    let pairs = empty_pairs(alloc, count)?;
+    let pairs = pairs_of_texts(alloc, count)?;
     let mut out = Vec::new(alloc);
     EventEncoder::new(&mut out).write_string_map(&pairs)?;
     Ok(out)
@@ -176,15 +165,8 @@ fn many_fields(alloc: Global, count: usize) -> Result<Vec<u8>, EncodeError> {
     let mut out = Vec::new(alloc);
     let mut encoder = EventEncoder::new(&mut out);
     for _ in 0..count {
-        encoder.write_u8(1)?;
-        encoder.write_u16(1)?;
-        encoder.write_u32(1)?;
-        encoder.write_u64(1)?;
-        encoder.write_i64(1)?;
-        encoder.write_bool(true)?;
-        encoder.write_f64(F64Bits(1))?;
-        encoder.write_interned(InternedString::from_raw(1))?;
-        encoder.write_interned_stack_frames(InternedStackFrames::from_raw(1))?;
+        write_numbers(&mut encoder)?;
+        write_ids(&mut encoder)?;
     }
     Ok(out)
 }
@@ -192,7 +174,7 @@ fn many_fields(alloc: Global, count: usize) -> Result<Vec<u8>, EncodeError> {
 #[test]
 fn fields_after_any_count_of_others(rt: HostRuntime) -> Result<(), Fail> {
     for count in SIZES {
-        let length = (count as u64).saturating_mul(33);
+        let length = (count as u64).saturating_mul(34);
         assert_eq!(rt; many_fields(rt.alloc(), count)?.len() as u64, length);
     }
     Ok(())
