@@ -42,7 +42,7 @@ fn check_copy(
     let mut copy = entry.clone(alloc)?;
     check_entry(rt, &copy, 1);
     assert!(rt; copy == *entry);
-    copy.append_annotations(alloc, annotations)?;
+    copy.push_annotation_copies(alloc, annotations)?;
     check_entry(rt, &copy, 2);
     assert!(rt; copy != *entry);
     Ok(())
