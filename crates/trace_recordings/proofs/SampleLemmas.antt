@@ -16,16 +16,15 @@ passes_there p xs i d index =
     let inside : position_or_len p xs < length xs = ltb-true (position_or_len p xs) (length xs) found.0 in
     rw (sym found.1) (passes_at_first p xs d inside)
 
--- the element of an index, and those after it; there are at least so many
-pub element_more : {A : Type 0} (xs : List A) (size : ℕ) → size ≤ length xs → (i : ℕ) → nat_lt i size ≡ true → (x : A) (later : List A) → x ≡ get_or xs i x → later ≡ drop (i + 1) xs → x ∷ later ≡ drop i xs
-element_more xs size enough i below x later is others =
+-- the number of an index, and those after it; there are at least so many
+pub number_more : (xs : List ℕ) (size : ℕ) → size ≤ length xs → (i : ℕ) → nat_lt i size ≡ true → (later : List ℕ) → later ≡ drop (i + 1) xs → get_or xs i 0 ∷ later ≡ drop i xs
+number_more xs size enough i below later others =
     let low : i < size = ltb-true i size below in
-    let parts : drop i xs ≡ get_or xs i x ∷ drop (i + 1) xs = drop_more xs i x (omega arith) in
-    sym (parts ∙ (ap (λ y. y ∷ drop (i + 1) xs) (sym is) ∙ ap (λ ys. x ∷ ys) (sym others)))
+    ap (λ (ys : List ℕ). get_or xs i 0 ∷ ys) others ∙ sym (drop_more xs i 0 (omega arith))
 
 -- and none after the last
-pub no_more : {A : Type 0} (xs : List A) (size : ℕ) → length xs ≤ size → [] ≡ drop size xs
-no_more xs size all = sym (at_drop_all (λ ys. ys) xs size all)
+pub no_number_more : (xs : List ℕ) (size : ℕ) → length xs ≤ size → [] ≡ drop size xs
+no_number_more xs size all = sym (at_drop_all (λ (ys : List ℕ). ys) xs size all)
 
 -- the values before an index, and those from it on
 pub views_parts : (xs : List FieldValue) (i : ℕ) → views (take i xs) ++ views (drop i xs) ≡ views xs

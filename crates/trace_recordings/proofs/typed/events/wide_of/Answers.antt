@@ -1,4 +1,30 @@
+use Rattle.std.proofs.Common.{refl, length, ◌≤◌, arith}
+use Rattle.trace_recordings.proofs.SampleLemmas.{number_more, no_number_more}
 use Rattle.trace_recordings.proofs.typed.events.wide_of.Goals as goal
 
 pub returns-clause-numbers : goal.returns-clause-numbers
-returns-clause-numbers c = ?
+returns-clause-numbers c =
+    let xs = c.args.numbers.now in
+    let enough = c.in-len20.len_at_least in
+    let all : length xs ≤ 20 = omega (arith, c.in-len20.len_below) in
+    number_more xs 20 enough 0 refl _ (
+    number_more xs 20 enough 1 refl _ (
+    number_more xs 20 enough 2 refl _ (
+    number_more xs 20 enough 3 refl _ (
+    number_more xs 20 enough 4 refl _ (
+    number_more xs 20 enough 5 refl _ (
+    number_more xs 20 enough 6 refl _ (
+    number_more xs 20 enough 7 refl _ (
+    number_more xs 20 enough 8 refl _ (
+    number_more xs 20 enough 9 refl _ (
+    number_more xs 20 enough 10 refl _ (
+    number_more xs 20 enough 11 refl _ (
+    number_more xs 20 enough 12 refl _ (
+    number_more xs 20 enough 13 refl _ (
+    number_more xs 20 enough 14 refl _ (
+    number_more xs 20 enough 15 refl _ (
+    number_more xs 20 enough 16 refl _ (
+    number_more xs 20 enough 17 refl _ (
+    number_more xs 20 enough 18 refl _ (
+    number_more xs 20 enough 19 refl _ (
+    no_number_more xs 20 all))))))))))))))))))))

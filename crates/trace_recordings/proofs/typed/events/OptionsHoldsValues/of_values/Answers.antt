@@ -1,4 +1,4 @@
-use Rattle.std.proofs.Common.{◌≡◌, ◌++◌, ◌∙◌, ap, take, drop, List}
+use Rattle.std.proofs.Common.{◌≡◌, ◌++◌, ◌∙◌, ap, take, drop, rules, List}
 use Rattle.trace_values.specs.Values.{Value}
 use Rattle.trace_values.specs.View.{views}
 use Rattle.trace_values.specs.declared.types.field_value.FieldValue.{FieldValue}
