@@ -51,37 +51,50 @@ fn dump_stops_where_the_writer_fails(rt: HostRuntime) {
     }
 }
 
-/// The dump of the bytes over a writer that does not fail: the writer is settled.
-fn check_settled(rt: &impl Abort, alloc: Global, bytes: &[u8], status: u8, lines: &str) {
-    for step in [1, 5, 1_024usize] {
-        let mut told = Told::new(stepping(step));
-        assert_eq!(rt; dump(alloc, bytes, &mut told, false), status);
-        check_told(rt, &told, lines.as_bytes(), Faults::NoFault, true);
-    }
+/// The one event without its last byte.
+const CUT_EVENT: [u8; 25] = [
+    0x54, 0x52, 0x43, 0x00, 0x01, 0x01, 0x00, 0x01, 0x02, 0x00, 0x45, 0x76, 0x01, 0x01, 0x00, 0x01,
+    0x00, 0x76, 0x09, 0x02, 0x00, 0x01, 0xE8, 0x03, 0x00,
+];
+
+/// Traces, and the status and the lines of their dumps.
+const DUMPS: [(&[u8], u8, &str); 4] = [
+    (&ONE_EVENT, WHOLE, LINES),
+    (&[], NO_HEADER, "no header\n"),
+    (
+        &CUT_EVENT,
+        STOPPED,
+        "trace version 1\nschema \"Ev\" \"v\":Varint\nend stopped at 19\n",
+    ),
+    (&HEADER, WHOLE, "trace version 1\nend whole\n"),
+];
+
+/// The dump over a writer that takes so many bytes at a time: it is settled.
+fn check_settled(rt: &impl Abort, alloc: Global, row: (&[u8], u8, &str), step: usize) {
+    let (bytes, status, lines) = row;
+    let mut told = Told::new(stepping(step));
+    assert_eq!(rt; dump(alloc, bytes, &mut told, false), status);
+    check_told(rt, &told, lines.as_bytes(), Faults::NoFault, true);
+}
+
+/// The dump over a writer that fails to settle.
+fn check_unsettled(rt: &impl Abort, alloc: Global, row: (&[u8], u8, &str), kind: ErrorKind) {
+    let (bytes, _, lines) = row;
+    let mut told = Told::new(unsettling(kind));
+    assert_eq!(rt; dump(alloc, bytes, &mut told, false), FAILED);
+    check_told(rt, &told, lines.as_bytes(), Faults::OneFault(kind), false);
 }
 
 #[test]
 fn dump_settles_what_it_wrote(rt: HostRuntime) {
-    check_settled(&rt, rt.alloc(), &ONE_EVENT, WHOLE, LINES);
-    check_settled(&rt, rt.alloc(), &[], NO_HEADER, "no header\n");
-    let stopped = "trace version 1\nschema \"Ev\" \"v\":Varint\nend stopped at 19\n";
-    check_settled(&rt, rt.alloc(), &ONE_EVENT[..25], STOPPED, stopped);
-}
-
-/// The dump of the bytes over a writer that fails to settle.
-fn check_unsettled(rt: &impl Abort, alloc: Global, bytes: &[u8], lines: &str) {
-    for kind in [ErrorKind::StorageFull, ErrorKind::Interrupted] {
-        let mut told = Told::new(unsettling(kind));
-        assert_eq!(rt; dump(alloc, bytes, &mut told, false), FAILED);
-        check_told(rt, &told, lines.as_bytes(), Faults::OneFault(kind), false);
+    for row in DUMPS {
+        for step in [1, 5, 1_024usize] {
+            check_settled(&rt, rt.alloc(), row, step);
+        }
+        for kind in [ErrorKind::StorageFull, ErrorKind::Interrupted] {
+            check_unsettled(&rt, rt.alloc(), row, kind);
+        }
     }
-}
-
-#[test]
-fn dump_fails_where_settling_fails(rt: HostRuntime) {
-    check_unsettled(&rt, rt.alloc(), &ONE_EVENT, LINES);
-    check_unsettled(&rt, rt.alloc(), &[], "no header\n");
-    check_unsettled(&rt, rt.alloc(), &HEADER, "trace version 1\nend whole\n");
 }
 
 #[test]

@@ -13,7 +13,7 @@ use std::test::Fail;
 use trace_lines::dump::{FAILED, WHOLE, dump};
 use trace_values::leb128::send_bytes;
 
-/// Takes so many bytes a call, keeps count of its calls, and fails them by these kinds, the first write and the first flush alone or each.
+/// Takes so many bytes a call, keeps count of its calls, and fails writes and flushes by these kinds.
 #[derive(Drop)]
 struct Counting {
     bytes: Vec<u8>,
@@ -22,7 +22,6 @@ struct Counting {
     flushes: u64,
     write_fault: Option<ErrorKind>,
     flush_fault: Option<ErrorKind>,
-    once: bool,
 }
 
 impl Counting {
@@ -35,7 +34,6 @@ impl Counting {
             flushes: 0,
             write_fault: None,
             flush_fault: None,
-            once: false,
         }
     }
 
@@ -53,7 +51,7 @@ impl Write for Counting {
     fn write(&mut self, piece: &[u8]) -> io::Result<usize> {
         self.writes = self.writes.saturating_add(1);
         match self.write_fault {
-            Some(kind) if !self.once || self.writes == 1 => Err(io::Error::from(kind)),
+            Some(kind) => Err(io::Error::from(kind)),
             _ => {
                 let count = piece.len().min(self.step);
                 self.bytes.extend_from_slice(&piece[..count])?;
@@ -65,7 +63,7 @@ impl Write for Counting {
     fn flush(&mut self) -> io::Result<()> {
         self.flushes = self.flushes.saturating_add(1);
         match self.flush_fault {
-            Some(kind) if !self.once || self.flushes == 1 => Err(io::Error::from(kind)),
+            Some(kind) => Err(io::Error::from(kind)),
             _ => Ok(()),
         }
     }
@@ -79,6 +77,7 @@ fn kind_of<T: Drop>(answer: io::Result<T>) -> Option<ErrorKind> {
     }
 }
 
+/// No call is tried again, not after an interrupt either.
 #[test]
 fn a_plain_writer_answers_the_error_of_its_writer(rt: HostRuntime) {
     let kinds = [
@@ -93,19 +92,9 @@ fn a_plain_writer_answers_the_error_of_its_writer(rt: HostRuntime) {
             let mut plain = Plain(Counting::failing(rt.alloc(), write, flush));
             assert_eq!(rt; kind_of(plain.send(b"a")), Some(write));
             assert_eq!(rt; kind_of(plain.settle()), Some(flush));
+            check_counts(&rt, &plain.0, &[], 1, 1);
         }
     }
-}
-
-#[test]
-fn an_interrupt_is_not_tried_again(rt: HostRuntime) {
-    let mut plain = Plain(Counting {
-        once: true,
-        ..Counting::failing(rt.alloc(), ErrorKind::Interrupted, ErrorKind::Interrupted)
-    });
-    assert_eq!(rt; kind_of(plain.send(b"a")), Some(ErrorKind::Interrupted));
-    assert_eq!(rt; kind_of(plain.settle()), Some(ErrorKind::Interrupted));
-    check_counts(&rt, &plain.0, &[], 1, 1);
 }
 
 #[test]

@@ -1,7 +1,7 @@
 //! Events of a type that is known: no schema is made for them.
 
-use crate::tests::calls::put;
-use dial9_trace_format::encoder::Encoder;
+use crate::tests::calls::{fresh, put};
+use crate::tests::checks::{check_number, check_refused};
 use dial9_trace_format::leb128::EncodeError;
 use dial9_trace_format::schema::{FieldDef, SchemaEntry};
 use dial9_trace_format::types::EventEncoder;
@@ -59,45 +59,37 @@ impl<T: TraceEvent + Drop> TraceEvent for Unmade<T> {
 fn check_known<T: TraceEvent + Drop>(
     rt: &impl Abort,
     alloc: Global,
-    event: &T,
     unmade: &Unmade<T>,
     length: u64,
 ) -> Result<(), Fail> {
-    let mut encoder = Encoder::new(alloc)?;
-    let refused = put(&mut encoder, unmade);
-    assert!(rt; refused == Err(EncodeError::OutOfMemory));
-    assert_eq!(rt; encoder.bytes_written(), 5);
-    put(&mut encoder, event)?;
+    let mut encoder = fresh(alloc)?;
+    check_refused(
+        rt,
+        put(&mut encoder, unmade).err(),
+        EncodeError::OutOfMemory,
+    );
+    check_number(rt, encoder.bytes_written(), 5);
+    put(&mut encoder, &unmade.0)?;
     let before = encoder.bytes_written();
     put(&mut encoder, unmade)?;
     put(&mut encoder, unmade)?;
-    assert_eq!(rt; encoder.bytes_written().saturating_sub(before), length);
+    check_number(rt, encoder.bytes_written().saturating_sub(before), length);
     Ok(())
 }
 
+/// Two types of a slot, and two of a name.
 #[test]
-fn no_schema_of_a_known_slot(rt: HostRuntime) -> Result<(), Fail> {
+fn no_schema_of_a_known_type(rt: HostRuntime) -> Result<(), Fail> {
     assert_eq!(rt; STATIC_WIRE_ID_LIMIT, 256);
-    let alloc = rt.alloc();
-    let fast = FastSlot { time: 1 };
-    check_known(&rt, alloc, &fast, &Unmade(FastSlot { time: 1 }), 12)?;
-    let load = Annotated { time: 1, load: 2 };
-    let unmade = Unmade(Annotated { time: 1, load: 2 });
-    check_known(&rt, alloc, &load, &unmade, 14)
-}
-
-#[test]
-fn no_schema_of_a_known_name(rt: HostRuntime) -> Result<(), Fail> {
-    let alloc = rt.alloc();
-    let other = ByName { time: 1 };
-    check_known(&rt, alloc, &other, &Unmade(ByName { time: 1 }), 12)?;
-    let flag = Nameless {
-        time: 1,
-        flag: true,
-    };
-    let unmade = Unmade(Nameless {
+    let fast = Unmade(FastSlot { time: 1 });
+    check_known(&rt, rt.alloc(), &fast, 12)?;
+    let load = Unmade(Annotated { time: 1, load: 2 });
+    check_known(&rt, rt.alloc(), &load, 14)?;
+    let other = Unmade(ByName { time: 1 });
+    check_known(&rt, rt.alloc(), &other, 12)?;
+    let flag = Unmade(Nameless {
         time: 1,
         flag: true,
     });
-    check_known(&rt, alloc, &flag, &unmade, 14)
+    check_known(&rt, rt.alloc(), &flag, 14)
 }

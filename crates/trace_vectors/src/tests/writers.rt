@@ -88,20 +88,10 @@ fn write_event(alloc: Global, encoder: &mut Encoder<Told>) -> Result<(), EncodeE
     encoder.write_event(&schema, 1_000, &[FieldValue::Varint(42)])
 }
 
-fn intern_text(encoder: &mut Encoder<Told>) -> Result<(), EncodeError> {
-    encoder.intern_string("hello")?;
-    Ok(())
-}
-
-fn intern_stack(encoder: &mut Encoder<Told>) -> Result<(), EncodeError> {
-    encoder.intern_stack_frames(&[16])?;
-    Ok(())
-}
-
 fn write_string_pool(alloc: Global, encoder: &mut Encoder<Told>) -> Result<(), EncodeError> {
     let entry = PoolEntry {
         pool_id: 7,
-        bytes: Vec::from_slice(alloc, b"b")?,
+        bytes: vec![in alloc; 0x62]?,
     };
     encoder.write_string_pool(&[entry])
 }
@@ -120,8 +110,14 @@ fn make(alloc: Global, encoder: &mut Encoder<Told>, work: Work) -> Result<(), En
         Work::RegisterSchema => register_schema(alloc, encoder),
         Work::RegisterExisting => register_existing(alloc, encoder),
         Work::Event => write_event(alloc, encoder),
-        Work::Text => intern_text(encoder),
-        Work::Stack => intern_stack(encoder),
+        Work::Text => {
+            encoder.intern_string("hello")?;
+            Ok(())
+        }
+        Work::Stack => {
+            encoder.intern_stack_frames(&[16])?;
+            Ok(())
+        }
         Work::StringPool => write_string_pool(alloc, encoder),
         Work::StackPool => write_stack_pool(alloc, encoder),
     }

@@ -206,15 +206,6 @@ fn dynamic(alloc: Global, size: usize) -> Result<Dynamic, AllocError> {
     })
 }
 
-#[test]
-fn types_of_texts_of_each_size(rt: HostRuntime) -> Result<(), Fail> {
-    for size in SIZES {
-        check_texts(&rt, rt.alloc(), size)?;
-        check_borrowed(&rt, rt.alloc(), size)?;
-    }
-    check_borrowed(&rt, rt.alloc(), MILLION)
-}
-
 /// An event of a stack of this size, and one of a list and a map, are written and read, and dumped where they are shorter than a million.
 fn check_lists(rt: &impl Abort, alloc: Global, size: usize) -> Result<(), Fail> {
     let frames = spelled_length(FieldType::StackFrames, size);
@@ -233,10 +224,13 @@ fn check_lists(rt: &impl Abort, alloc: Global, size: usize) -> Result<(), Fail> 
 }
 
 #[test]
-fn types_of_lists_of_each_size(rt: HostRuntime) -> Result<(), Fail> {
+fn types_of_each_size(rt: HostRuntime) -> Result<(), Fail> {
     for size in SIZES {
+        check_texts(&rt, rt.alloc(), size)?;
+        check_borrowed(&rt, rt.alloc(), size)?;
         check_lists(&rt, rt.alloc(), size)?;
     }
+    check_borrowed(&rt, rt.alloc(), MILLION)?;
     check_lists(&rt, rt.alloc(), MILLION)
 }
 

@@ -7,25 +7,36 @@ use crate::tests::ample::{
 };
 use crate::tests::calls::{all_of, fresh, put_event, put_one, register, register_new, run};
 use crate::tests::checks::check_refused;
-use crate::tests::traces::{ev, one_field};
+use crate::tests::traces::{ev, one_definition};
 use dial9_trace_format::decoder::DecodedFrame;
 use dial9_trace_format::encoder::{Call, Reply, Schema};
 use dial9_trace_format::leb128::EncodeError;
+use dial9_trace_format::schema::FieldDef;
 use dial9_trace_format::types::{FieldType, FieldValue};
 use std::alloc::{AllocError, Global};
 use std::process::Abort;
 use std::test::Fail;
 
-/// What an encoder writes for an event at 0 of these values, of a field of this type.
+/// What an encoder writes for an event at 0 of these fields with these values.
+pub fn event_of(
+    alloc: Global,
+    fields: Vec<FieldDef>,
+    values: &[FieldValue],
+) -> Result<Vec<u8>, EncodeError> {
+    let mut encoder = fresh(alloc)?;
+    let schema = register_new(&mut encoder, "K", fields)?;
+    put_event(&mut encoder, &schema, 0, values)?;
+    Ok(encoder.finish())
+}
+
+/// The same of one field, of this type.
 fn event(
     alloc: Global,
     field_type: FieldType,
     values: &[FieldValue],
 ) -> Result<Vec<u8>, EncodeError> {
-    let schema = one_field(alloc, "K", "f", field_type)?;
-    let mut encoder = fresh(alloc)?;
-    put_event(&mut encoder, &schema, 0, values)?;
-    Ok(encoder.finish())
+    let fields = one_definition(alloc, "f", field_type)?;
+    event_of(alloc, fields, values)
 }
 
 /// The last of the frames is an event of these values.
@@ -84,27 +95,28 @@ fn events_of_absent_values(rt: HostRuntime) -> Result<(), Fail> {
     Ok(())
 }
 
-/// So many absent values.
-fn absent(alloc: Global, count: usize) -> Result<Vec<FieldValue>, AllocError> {
+/// So many times this number, or the absent value where there is none.
+pub fn repeated(
+    alloc: Global,
+    count: usize,
+    number: Option<u64>,
+) -> Result<Vec<FieldValue>, AllocError> {
     let mut values = Vec::new(alloc);
     for _ in 0..count {
-        values.push(FieldValue::None)?;
+        let value = match number {
+            Some(number) => FieldValue::Varint(number),
+            None => FieldValue::None,
+        };
+        values.push(value)?;
     }
     Ok(values)
 }
 
-/// What an encoder writes for an event of so many fields.
-fn event_of_fields(alloc: Global, count: usize) -> Result<Vec<u8>, EncodeError> {
-    let mut encoder = fresh(alloc)?;
-    let fields = fields(alloc, count, FieldType::OptionalU8)?;
-    let schema = register_new(&mut encoder, "F", fields)?;
-    put_event(&mut encoder, &schema, 0, &absent(alloc, count)?)?;
-    Ok(encoder.finish())
-}
-
 /// An event of so many fields is written, read and dumped.
 fn check_fields(rt: &impl Abort, alloc: Global, count: usize) -> Result<(), Fail> {
-    let bytes = event_of_fields(alloc, count)?;
+    let fields = fields(alloc, count, FieldType::OptionalU8)?;
+    let values = repeated(alloc, count, None)?;
+    let bytes = event_of(alloc, fields, &values)?;
     let length = (count as u64).saturating_mul(4).saturating_add(20);
     assert_eq!(rt; bytes.len() as u64, length);
     check_read(rt, alloc, &bytes, 2)
@@ -122,7 +134,8 @@ fn events_of_each_count_of_fields(rt: HostRuntime) -> Result<(), Fail> {
 fn many_events(alloc: Global, count: usize) -> Result<Vec<u8>, EncodeError> {
     let mut encoder = fresh(alloc)?;
     for _ in 0..count {
-        put_one(&mut encoder, &ev(alloc)?, 0, FieldValue::Varint(0))?;
+        let schema = ev(alloc)?;
+        put_one(&mut encoder, &schema, 0, FieldValue::Varint(0))?;
     }
     Ok(encoder.finish())
 }
@@ -174,7 +187,8 @@ fn schema_names_of_each_size(rt: HostRuntime) -> Result<(), Fail> {
 fn empty_texts(alloc: Global, count: usize) -> Result<Vec<Call>, AllocError> {
     let mut calls = Vec::new(alloc);
     for _ in 0..count {
-        calls.push(Call::InternString(String::new(alloc)))?;
+        let call = Call::InternString(String::new(alloc));
+        calls.push(call)?;
     }
     Ok(calls)
 }

@@ -1,13 +1,11 @@
 //! Layouts of fields of each count: of fixed width, of open width, and both in turn.
 
 use crate::tests::ample::COUNTS;
+use crate::tests::ample::events::{event_of, repeated};
 use crate::tests::ample::traces::check_read;
-use crate::tests::calls::{put_event, register_new};
 use dial9_trace_format::codec::compile;
-use dial9_trace_format::encoder::Encoder;
-use dial9_trace_format::leb128::EncodeError;
 use dial9_trace_format::schema::FieldDef;
-use dial9_trace_format::types::{FieldType, FieldValue};
+use dial9_trace_format::types::FieldType;
 use std::alloc::{AllocError, Global};
 use std::process::Abort;
 use std::test::Fail;
@@ -22,21 +20,10 @@ fn fields_in_turn(
     let mut fields = Vec::new(alloc);
     for place in 0..count {
         let field_type = if place % 2 == 0 { first } else { second };
-        fields.push(FieldDef::new(alloc, "", field_type)?)?;
+        let field = FieldDef::new(alloc, "", field_type)?;
+        fields.push(field)?;
     }
     Ok(fields)
-}
-
-/// What an encoder writes for an event at 0 with 7 in each field.
-fn event(alloc: Global, fields: Vec<FieldDef>) -> Result<Vec<u8>, EncodeError> {
-    let mut values = Vec::new(alloc);
-    for _ in fields.iter() {
-        values.push(FieldValue::Varint(7))?;
-    }
-    let mut encoder = Encoder::new(alloc)?;
-    let schema = register_new(&mut encoder, "F", fields)?;
-    put_event(&mut encoder, &schema, 0, &values)?;
-    Ok(encoder.finish())
 }
 
 /// Fields of these types in turn have so many steps, and a schema of them is registered, read and dumped, with an event.
@@ -50,7 +37,8 @@ fn check_layout(
     let fields = fields_in_turn(alloc, count, types.0, types.1)?;
     let layout = compile(alloc, &fields)?;
     assert_eq!(rt; layout.steps().len(), steps);
-    let bytes = event(alloc, fields)?;
+    let values = repeated(alloc, count, Some(7))?;
+    let bytes = event_of(alloc, fields, &values)?;
     check_read(rt, alloc, &bytes, 2)
 }
 

@@ -97,10 +97,11 @@ fn many(alloc: Global, count: usize) -> Result<Vec<u8>, EncodeError> {
 fn strings(alloc: Global, count: usize) -> Result<Vec<PoolEntry>, AllocError> {
     let mut entries = Vec::new(alloc);
     for id in 0..count.min(65_536) {
-        entries.push(PoolEntry {
+        let entry = PoolEntry {
             pool_id: id as u32,
             bytes: Vec::new(alloc),
-        })?;
+        };
+        entries.push(entry)?;
     }
     Ok(entries)
 }
@@ -109,10 +110,11 @@ fn strings(alloc: Global, count: usize) -> Result<Vec<PoolEntry>, AllocError> {
 fn stacks(alloc: Global, count: usize) -> Result<Vec<StackPoolEntry>, AllocError> {
     let mut entries = Vec::new(alloc);
     for id in 0..count.min(65_536) {
-        entries.push(StackPoolEntry {
+        let entry = StackPoolEntry {
             pool_id: id as u32,
             frames: Vec::new(alloc),
-        })?;
+        };
+        entries.push(entry)?;
     }
     Ok(entries)
 }

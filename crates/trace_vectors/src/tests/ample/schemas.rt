@@ -19,7 +19,8 @@ pub fn fields(
 ) -> Result<Vec<FieldDef>, AllocError> {
     let mut fields = Vec::new(alloc);
     for _ in 0..count {
-        fields.push(FieldDef::new(alloc, "", field_type)?)?;
+        let field = FieldDef::new(alloc, "", field_type)?;
+        fields.push(field)?;
     }
     Ok(fields)
 }
@@ -28,7 +29,8 @@ pub fn fields(
 fn annotations(alloc: Global, count: usize) -> Result<Vec<FieldAnnotation>, AllocError> {
     let mut annotations = Vec::new(alloc);
     for _ in 0..count {
-        annotations.push(FieldAnnotation::new(alloc, 0, "", "")?)?;
+        let annotation = FieldAnnotation::new(alloc, 0, "", "")?;
+        annotations.push(annotation)?;
     }
     Ok(annotations)
 }
