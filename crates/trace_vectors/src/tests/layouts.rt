@@ -1,6 +1,6 @@
 //! Fields compiled into steps.
 
-use dial9_trace_format::codec::{FieldStep, compile};
+use dial9_trace_format::codec::{Step, compile};
 use dial9_trace_format::schema::FieldDef;
 use dial9_trace_format::types::FieldType;
 use std::alloc::{AllocError, Global};
@@ -17,7 +17,7 @@ fn fields_of(alloc: Global, types: &[FieldType]) -> Result<Vec<FieldDef>, AllocE
 }
 
 /// Types of fields in a row, and their steps.
-const LAYOUTS: [(&[FieldType], &[FieldStep]); 2] = [
+const LAYOUTS: [(&[FieldType], &[Step]); 2] = [
     (
         &[
             FieldType::I64,
@@ -29,19 +29,19 @@ const LAYOUTS: [(&[FieldType], &[FieldStep]); 2] = [
             FieldType::U32,
         ],
         &[
-            FieldStep::Fixed {
+            Step::Run {
                 first: 0,
                 count: 2,
                 width: 9,
             },
-            FieldStep::Walk { field: 2 },
-            FieldStep::Fixed {
+            Step::Walk { field: 2 },
+            Step::Run {
                 first: 3,
                 count: 1,
                 width: 2,
             },
-            FieldStep::Walk { field: 4 },
-            FieldStep::Fixed {
+            Step::Walk { field: 4 },
+            Step::Run {
                 first: 5,
                 count: 2,
                 width: 8,
