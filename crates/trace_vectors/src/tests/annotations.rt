@@ -24,11 +24,8 @@ fn check_unit(rt: &impl Abort, annotation: &FieldAnnotation) {
 
 /// The registry has that annotation alone under wire id 256, and no entry under 7.
 fn check_registry(rt: &impl Abort, registry: &SchemaRegistry) -> Result<(), Fail> {
-    match registry
-        .get(WireTypeId(256))
-        .ok_or("no entry")?
-        .annotations()
-    {
+    let entry = registry.get(WireTypeId(256)).ok_or("no entry")?;
+    match entry.annotations() {
         [annotation] => check_unit(rt, annotation),
         _ => assert!(rt; false, "other annotations"),
     }

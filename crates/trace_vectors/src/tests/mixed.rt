@@ -40,7 +40,8 @@ pub fn check_owned_to(
 
 /// A sink refuses the next event, which ends here.
 pub fn check_refused_to(rt: &impl Abort, decoder: &mut Decoder<'_>, place: usize) {
-    check_unwanted(rt, decoder, &mut Adding { left: 0, total: 0 });
+    let mut sink = Adding { left: 0, total: 0 };
+    check_unwanted(rt, decoder, &mut sink);
     check_place(rt, decoder, place);
 }
 

@@ -25,24 +25,19 @@ struct Counting {
 }
 
 impl Counting {
-    /// One that takes all its calls.
-    fn new(alloc: Global, step: usize) -> Counting {
+    fn new(
+        alloc: Global,
+        step: usize,
+        write_fault: Option<ErrorKind>,
+        flush_fault: Option<ErrorKind>,
+    ) -> Counting {
         Counting {
             bytes: Vec::new(alloc),
             step,
             writes: 0,
             flushes: 0,
-            write_fault: None,
-            flush_fault: None,
-        }
-    }
-
-    /// One that fails each write and each flush.
-    fn failing(alloc: Global, write: ErrorKind, flush: ErrorKind) -> Counting {
-        Counting {
-            write_fault: Some(write),
-            flush_fault: Some(flush),
-            ..Counting::new(alloc, 1_000)
+            write_fault,
+            flush_fault,
         }
     }
 }
@@ -89,7 +84,7 @@ fn a_plain_writer_answers_the_error_of_its_writer(rt: HostRuntime) {
     ];
     for write in kinds {
         for flush in kinds {
-            let mut plain = Plain(Counting::failing(rt.alloc(), write, flush));
+            let mut plain = Plain(Counting::new(rt.alloc(), 1_000, Some(write), Some(flush)));
             assert_eq!(rt; kind_of(plain.send(b"a")), Some(write));
             assert_eq!(rt; kind_of(plain.settle()), Some(flush));
             check_counts(&rt, &plain.0, &[], 1, 1);
@@ -100,7 +95,7 @@ fn a_plain_writer_answers_the_error_of_its_writer(rt: HostRuntime) {
 #[test]
 fn the_error_of_a_plain_writer_is_the_fault(rt: HostRuntime) {
     let (write, flush) = (ErrorKind::PermissionDenied, ErrorKind::StorageFull);
-    let mut plain = Plain(Counting::failing(rt.alloc(), write, flush));
+    let mut plain = Plain(Counting::new(rt.alloc(), 1_000, Some(write), Some(flush)));
     assert_eq!(rt;
         send_bytes(&mut plain, b"a"),
         Err(EncodeError::Writer(write))
@@ -124,10 +119,10 @@ fn check_counts(rt: &impl Abort, counting: &Counting, bytes: &[u8], writes: u64,
 #[test]
 fn a_long_piece_goes_out_in_the_steps_of_its_writer(rt: HostRuntime) -> Result<(), Fail> {
     let bytes: Vec<u8> = vec![in rt.alloc(); 7; 200_000]?;
-    let mut plain = Plain(Counting::new(rt.alloc(), 1_000_000));
+    let mut plain = Plain(Counting::new(rt.alloc(), 1_000_000, None, None));
     assert!(rt; matches!(plain.send(&bytes), Ok(200_000)));
     check_counts(&rt, &plain.0, &bytes, 1, 0);
-    let mut plain = Plain(Counting::new(rt.alloc(), 65_537));
+    let mut plain = Plain(Counting::new(rt.alloc(), 65_537, None, None));
     assert!(rt; send_all(&mut plain, &bytes).is_ok());
     check_counts(&rt, &plain.0, &bytes, 4, 0);
     Ok(())
@@ -135,7 +130,7 @@ fn a_long_piece_goes_out_in_the_steps_of_its_writer(rt: HostRuntime) -> Result<(
 
 #[test]
 fn settling_flushes_once(rt: HostRuntime) -> Result<(), Fail> {
-    let mut plain = Plain(Counting::new(rt.alloc(), 3));
+    let mut plain = Plain(Counting::new(rt.alloc(), 3, None, None));
     plain.settle()?;
     check_counts(&rt, &plain.0, &[], 0, 1);
     assert!(rt; send_all(&mut plain, b"abcd").is_ok());
@@ -147,13 +142,10 @@ fn settling_flushes_once(rt: HostRuntime) -> Result<(), Fail> {
 
 #[test]
 fn a_dump_flushes_once(rt: HostRuntime) {
-    let mut plain = Plain(Counting::new(rt.alloc(), 1_000));
+    let mut plain = Plain(Counting::new(rt.alloc(), 1_000, None, None));
     assert_eq!(rt; dump(rt.alloc(), &ONE_EVENT, &mut plain, false), WHOLE);
     assert_eq!(rt; plain.0.flushes, 1);
-    let mut failing = Plain(Counting {
-        flush_fault: Some(ErrorKind::StorageFull),
-        ..Counting::new(rt.alloc(), 1_000)
-    });
+    let mut failing = Plain(Counting::new(rt.alloc(), 1_000, None, Some(ErrorKind::StorageFull)));
     assert_eq!(rt; dump(rt.alloc(), &ONE_EVENT, &mut failing, false), FAILED);
     assert_eq!(rt; failing.0.flushes, 1);
 }
@@ -161,7 +153,7 @@ fn a_dump_flushes_once(rt: HostRuntime) {
 #[test]
 fn an_encoder_over_a_plain_writer(rt: HostRuntime) -> Result<(), Fail> {
     let schema = ev(rt.alloc())?;
-    let mut encoder = Encoder::new_to(rt.alloc(), Plain(Counting::new(rt.alloc(), 3)))?;
+    let mut encoder = Encoder::new_to(rt.alloc(), Plain(Counting::new(rt.alloc(), 3, None, None)))?;
     encoder.write_event(&schema, 1_000, &[FieldValue::Varint(42)])?;
     assert_eq!(rt; encoder.bytes_written(), 26);
     let plain = encoder.into_inner();

@@ -121,8 +121,9 @@ const REFUSALS: [(u8, usize, u64); 3] = [(0, 25, 7), (1, 33, 0), (2, 40, 0)];
 #[test]
 fn refusals(rt: HostRuntime) -> Result<(), Fail> {
     for (left, place, others) in REFUSALS {
+        let mut sink = Adding { left, total: 0 };
         let mut decoder = decoder_of(rt.alloc(), &THREE_EVENTS)?;
-        check_unwanted(&rt, &mut decoder, &mut Adding { left, total: 0 });
+        check_unwanted(&rt, &mut decoder, &mut sink);
         check_place(&rt, &decoder, place);
         check_rest(&rt, &mut decoder, others);
         check_place(&rt, &decoder, 40);

@@ -1,7 +1,7 @@
 //! Values that have no size, and the absent value.
 
-use crate::tests::ample::values::check_read;
 use crate::tests::calls::encoded;
+use crate::tests::read_values::check_read;
 use dial9_trace_format::leb128::{EncodeError, encode_unsigned};
 use dial9_trace_format::types::{
     EventEncoder, F64Bits, FieldType, FieldValue, FieldValueRef, InternedStackFrames,
@@ -34,7 +34,11 @@ fn each_kind() -> [(FieldType, FieldValue, usize); 9] {
 }
 
 /// The value as a field of this type.
-fn field(alloc: Global, field_type: FieldType, value: &FieldValue) -> Result<Vec<u8>, EncodeError> {
+pub fn field(
+    alloc: Global,
+    field_type: FieldType,
+    value: &FieldValue,
+) -> Result<Vec<u8>, EncodeError> {
     let mut out = Vec::new(alloc);
     EventEncoder::new(&mut out).write_field_value(value, field_type)?;
     Ok(out)

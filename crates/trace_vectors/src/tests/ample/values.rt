@@ -1,54 +1,16 @@
 //! Values that have a size.
 
+use crate::tests::ample::numbers::field;
 use crate::tests::ample::{MILLION, SIZED, SIZES, pairs_of_texts, spelled_length, text, value};
 use crate::tests::calls::encoded;
+use crate::tests::checks::check_number;
+use crate::tests::read_values::check_read;
 use crate::tests::written_values::{write_ids, write_numbers};
 use dial9_trace_format::leb128::EncodeError;
-use dial9_trace_format::types::{EventEncoder, FieldType, FieldValue, FieldValueRef, StackFrames};
-use std::alloc::{AllocError, Global};
+use dial9_trace_format::types::{EventEncoder, FieldType, StackFrames};
+use std::alloc::Global;
 use std::process::Abort;
 use std::test::Fail;
-
-/// The reader of owned values reads the value from these bytes.
-fn check_owned(
-    rt: &impl Abort,
-    alloc: Global,
-    field_type: FieldType,
-    bytes: &[u8],
-    value: &FieldValue,
-) -> Result<(), Fail> {
-    let (owned, rest) = FieldValue::decode(alloc, field_type, bytes)?.ok_or("no value")?;
-    assert!(rt; owned == *value);
-    assert_eq!(rt; rest.len(), 0);
-    Ok(())
-}
-
-/// The reader of borrowed values reads the value from these bytes, and its copies are equal.
-fn check_borrowed(
-    rt: &impl Abort,
-    alloc: Global,
-    field_type: FieldType,
-    bytes: &[u8],
-    value: &FieldValue,
-) -> Result<(), Fail> {
-    let (borrowed, length) = FieldValueRef::decode(alloc, field_type, bytes, 0)?.ok_or("none")?;
-    assert_eq!(rt; length, bytes.len());
-    assert!(rt; borrowed.clone(alloc)? == borrowed);
-    assert!(rt; borrowed.to_owned(alloc)? == *value);
-    Ok(())
-}
-
-/// Both readers read the value from these bytes.
-pub fn check_read(
-    rt: &impl Abort,
-    alloc: Global,
-    field_type: FieldType,
-    bytes: &[u8],
-    value: &FieldValue,
-) -> Result<(), Fail> {
-    check_owned(rt, alloc, field_type, bytes, value)?;
-    check_borrowed(rt, alloc, field_type, bytes, value)
-}
 
 /// The value of this size is made, spelled, read and copied.
 fn check_sized(
@@ -60,9 +22,7 @@ fn check_sized(
     let value = value(alloc, field_type, size)?;
     let bytes = encoded(alloc, &value)?;
     assert_eq!(rt; bytes.len() as u64, spelled_length(field_type, size));
-    check_read(rt, alloc, field_type, &bytes, &value)?;
-    assert!(rt; value.clone(alloc)? == value);
-    Ok(())
+    check_read(rt, alloc, field_type, &bytes, &value)
 }
 
 /// The value of this size is written as a field, by the type and by its optional type.
@@ -73,15 +33,11 @@ fn check_field(
     size: usize,
 ) -> Result<(), Fail> {
     let value = value(alloc, field_type, size)?;
-    let mut out = Vec::new(alloc);
-    EventEncoder::new(&mut out).write_field_value(&value, field_type)?;
-    assert_eq!(rt; out.len() as u64, spelled_length(field_type, size));
-    let mut out = Vec::new(alloc);
-    EventEncoder::new(&mut out).write_field_value(&value, field_type.optional())?;
-    assert_eq!(rt;
-        out.len() as u64,
-        spelled_length(field_type, size).saturating_add(1)
-    );
+    let length = spelled_length(field_type, size);
+    let plain = field(alloc, field_type, &value)?;
+    check_number(rt, plain.len() as u64, length);
+    let optional = field(alloc, field_type.optional(), &value)?;
+    check_number(rt, optional.len() as u64, length.saturating_add(1));
     Ok(())
 }
 
