@@ -26,12 +26,6 @@ impl<'a> EventVisitor<'a> for Seen {
     }
 }
 
-/// The visitor is shown so many events, whose times are so much together.
-pub fn check_seen(rt: &impl Abort, visitor: &Seen, events: u64, times: u64) {
-    assert_eq!(rt; visitor.events, events);
-    assert_eq!(rt; visitor.times, times);
-}
-
 /// The fault is this one, at this place.
 pub fn check_fault(rt: &impl Abort, fault: &DecodeError, kind: &DecodeErrorKind, place: usize) {
     assert!(rt; fault.kind == *kind);
@@ -54,7 +48,8 @@ pub fn check_shown(
         Ok(()) => assert!(rt; false, "no fault"),
         Err(fault) => check_fault(rt, &fault, kind, place),
     }
-    check_seen(rt, &visitor, seen.0, seen.1);
+    assert_eq!(rt; visitor.events, seen.0);
+    assert_eq!(rt; visitor.times, seen.1);
 }
 
 /// The one event, and the front of a second header.

@@ -224,13 +224,19 @@ fn check_lists(rt: &impl Abort, alloc: Global, size: usize) -> Result<(), Fail> 
 }
 
 #[test]
-fn types_of_each_size(rt: HostRuntime) -> Result<(), Fail> {
+fn types_of_texts_of_each_size(rt: HostRuntime) -> Result<(), Fail> {
     for size in SIZES {
         check_texts(&rt, rt.alloc(), size)?;
         check_borrowed(&rt, rt.alloc(), size)?;
+    }
+    check_borrowed(&rt, rt.alloc(), MILLION)
+}
+
+#[test]
+fn types_of_lists_of_each_size(rt: HostRuntime) -> Result<(), Fail> {
+    for size in SIZES {
         check_lists(&rt, rt.alloc(), size)?;
     }
-    check_borrowed(&rt, rt.alloc(), MILLION)?;
     check_lists(&rt, rt.alloc(), MILLION)
 }
 
