@@ -27,7 +27,7 @@ const BAD_TEXT: [u8; 29] = [
     0x73, 0x04, 0x02, 0x00, 0x01, 0x00, 0x00, 0x00, 0x01, 0x00, 0x00, 0x00, 0xFF,
 ];
 
-/// The borrowed reader gives the schema alone, and the owned one the event behind it.
+/// The borrowed reader gives the schema alone, and the owned one the event after it.
 fn check_owned_alone(rt: &impl Abort, decoder: &mut Decoder<'_>) -> Result<(), Fail> {
     check_borrowed_to(rt, decoder, 18)?;
     assert!(rt; next_ref(decoder)?.is_none());

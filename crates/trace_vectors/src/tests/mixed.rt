@@ -74,7 +74,7 @@ const NO_FRAME: [u8; 27] = [
     0x00, 0x76, 0x09, 0x02, 0x00, 0x01, 0xE8, 0x03, 0x00, 0x2A, 0xFF,
 ];
 
-/// The decoder gives the event, iterators end behind it, and a sink is told this fault, which they do not tell: again and again.
+/// The decoder gives the event, iterators end after it, and a sink is told this fault, which they do not tell: again and again.
 fn check_after_the_event(
     rt: &impl Abort,
     decoder: &mut Decoder<'_>,

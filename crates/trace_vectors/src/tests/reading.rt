@@ -69,7 +69,7 @@ fn check_event(rt: &impl Abort, frame: &DecodedFrame) {
     }
 }
 
-/// The decoder gives the schema `Ev` and the event, and is behind each then.
+/// The decoder gives the schema `Ev` and the event, and is after each then.
 fn check_frames(rt: &impl Abort, decoder: &mut Decoder<'_>) -> Result<(), Fail> {
     check_ev(rt, &next_one(decoder)?);
     check_place(rt, decoder, 19);

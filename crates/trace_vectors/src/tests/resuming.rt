@@ -24,8 +24,8 @@ fn read_in_turn(rt: &impl Abort, decoder: &mut Decoder<'_>) -> Result<(), Fail> 
     Ok(())
 }
 
-/// An encoder that goes on behind those frames.
-fn encoder_behind(rt: &impl Abort, alloc: Global) -> Result<Encoder, Fail> {
+/// An encoder that goes on after those frames.
+fn encoder_after(rt: &impl Abort, alloc: Global) -> Result<Encoder, Fail> {
     let mut decoder = decoder_of(alloc, &THREE_EVENTS)?;
     read_in_turn(rt, &mut decoder)?;
     Ok(into_encoder(alloc, decoder)?)
@@ -39,7 +39,7 @@ fn put_absent(alloc: Global, encoder: &mut Encoder) -> Result<(), EncodeError> {
 
 #[test]
 fn goes_on_after_readers_in_turn(rt: HostRuntime) -> Result<(), Fail> {
-    let mut encoder = encoder_behind(&rt, rt.alloc())?;
+    let mut encoder = encoder_after(&rt, rt.alloc())?;
     put_absent(rt.alloc(), &mut encoder)?;
     let sent = [0x02, 0x00, 0x01, 0x00, 0x00, 0x00, 0x00];
     check_bytes(&rt, &encoder.finish(), &sent);
@@ -66,8 +66,8 @@ fn torn(rt: &impl Abort, alloc: Global) -> Result<Told, EncodeError> {
     Ok(broken.into_inner())
 }
 
-/// An encoder that goes on behind the schema of a torn trace, which its writer has already.
-fn encoder_behind_schema(rt: &impl Abort, alloc: Global, bytes: &[u8]) -> Result<Encoder, Fail> {
+/// An encoder that goes on after the schema of a torn trace, which its writer has already.
+fn encoder_after_schema(rt: &impl Abort, alloc: Global, bytes: &[u8]) -> Result<Encoder, Fail> {
     let before = Vec::from_slice(alloc, &ONE_EVENT[..19])?;
     let mut decoder = decoder_of(alloc, bytes)?;
     assert_eq!(rt; all(&mut decoder)?.len(), 1);
@@ -78,7 +78,7 @@ fn encoder_behind_schema(rt: &impl Abort, alloc: Global, bytes: &[u8]) -> Result
 /// What its writer has after an event of `Ev` at 2,000 with 2.
 fn mended(rt: &impl Abort, alloc: Global, bytes: &[u8]) -> Result<Vec<u8>, Fail> {
     let schema = ev(alloc)?;
-    let mut encoder = encoder_behind_schema(rt, alloc, bytes)?;
+    let mut encoder = encoder_after_schema(rt, alloc, bytes)?;
     put_one(&mut encoder, &schema, 2_000, FieldValue::Varint(2))?;
     Ok(encoder.finish())
 }

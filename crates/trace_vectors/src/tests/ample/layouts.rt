@@ -18,8 +18,8 @@ fn fields_in_turn(
     second: FieldType,
 ) -> Result<Vec<FieldDef>, AllocError> {
     let mut fields = Vec::new(alloc);
-    for place in 0..count {
-        let field_type = if place % 2 == 0 { first } else { second };
+    for nth in 0..count {
+        let field_type = if nth % 2 == 0 { first } else { second };
         let field = FieldDef::new(alloc, "", field_type)?;
         fields.push(field)?;
     }
