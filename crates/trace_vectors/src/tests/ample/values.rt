@@ -49,6 +49,13 @@ fn values_of_each_size(rt: HostRuntime) -> Result<(), Fail> {
             check_sized(&rt, rt.alloc(), field_type, size)?;
             check_field(&rt, rt.alloc(), field_type, size)?;
         }
+    }
+    Ok(())
+}
+
+#[test]
+fn values_of_a_million(rt: HostRuntime) -> Result<(), Fail> {
+    for field_type in SIZED {
         check_sized(&rt, rt.alloc(), field_type, MILLION)?;
         check_field(&rt, rt.alloc(), field_type, MILLION)?;
     }
