@@ -1,7 +1,7 @@
 mod HexDigits
 pub mod ProgramLemmas
 mod ValueTexts
-mod FaultTexts
+mod UnknownIdTexts
 mod AppendedParts
 mod DumpLemmas
 mod SendsLemmas

@@ -18,7 +18,7 @@ use Rattle.dial9_trace_format.specs.declared.decoder.error.DecodeErrorKind.{Deco
 use Rattle.dial9_trace_format.specs.declared.decoder.error.DecodeErrorKind.TheVariants as kinds
 use Rattle.trace_wire.specs.declared.schema.WireTypeId.{WireTypeId}
 use Rattle.dial9_trace_format.proofs.DecoderRuns.{left_at, goes_inside}
-use Rattle.dial9_trace_format.proofs.CauseLemmas.{fault_is_no_frame}
+use Rattle.dial9_trace_format.proofs.CauseLemmas.{cause_is_no_frame}
 use Rattle.trace_recordings.specs.declared.sink.Counter.{Counter}
 use Rattle.trace_recordings.specs.Tallies.{counted_up}
 use Rattle.trace_recordings.specs.Sinks.{counts, EndsAt, sink_text, IsStreamSink}
@@ -42,19 +42,19 @@ place_of old new frames g h =
 
 -- ---- the end
 
--- no fault stands where nothing is left
-no_fault : (g : Grammar) (n : ℕ) (kind : DecodeErrorKind) → CauseAt g [] n kind → ⊥
-no_fault g n kinds.TruncatedEvent f = cc
-no_fault g n (kinds.UnknownTypeId id) f = cc
-no_fault g n kinds.TruncatedDelta f = cc
-no_fault g n kinds.TimestampOverflow f = cc
-no_fault g n kinds.TruncatedPrefix f = cc
-no_fault g n kinds.TruncatedOptional f = cc
-no_fault g n kinds.TruncatedValue f = cc
-no_fault g n kinds.TruncatedReset f = cc
-no_fault g n (kinds.NoFrame tag) f = cc
-no_fault g n (kinds.Conflict id) f = f
-no_fault g n kinds.OutOfMemory f = f
+-- no cause stands where nothing is left
+no_cause : (g : Grammar) (n : ℕ) (kind : DecodeErrorKind) → CauseAt g [] n kind → ⊥
+no_cause g n kinds.TruncatedEvent f = cc
+no_cause g n (kinds.UnknownTypeId id) f = cc
+no_cause g n kinds.TruncatedDelta f = cc
+no_cause g n kinds.TimestampOverflow f = cc
+no_cause g n kinds.TruncatedPrefix f = cc
+no_cause g n kinds.TruncatedOptional f = cc
+no_cause g n kinds.TruncatedValue f = cc
+no_cause g n kinds.TruncatedReset f = cc
+no_cause g n (kinds.NoFrame tag) f = cc
+no_cause g n (kinds.Conflict id) f = f
+no_cause g n kinds.OutOfMemory f = f
 
 ends_whole : (input : List ℕ) (version : ℕ) (new : DecoderState) (frames : List Frame) → 5 ≤ length input → Goes borrowed (new_decoder input version) new frames → rest_of new ≡ [] → EndsAt input frames Whole new.position
 ends_whole input version new frames inside g done = record {
@@ -67,11 +67,11 @@ ends_whole input version new frames inside g done = record {
 ends_stopped : (input : List ℕ) (version : ℕ) (mid new : DecoderState) (e : DecodeError) (frames : List Frame) → 5 ≤ length input → AreBytes (drop 5 input) → Goes borrowed (new_decoder input version) mid frames → HasCause mid new e → EndsAt input frames Stopped new.position
 ends_stopped input version mid new e frames inside fits g f =
     let left : AreBytes (rest_of mid) = AreBytes-right g.core.here (rest_of mid) (subst AreBytes g.core.parts fits) in
-    let some : rest_of mid ≢ [] = λ none. no_fault mid.grammar f.place e.kind (subst (λ (s : List ℕ). CauseAt mid.grammar s f.place e.kind) none f.fault) in
+    let some : rest_of mid ≢ [] = λ none. no_cause mid.grammar f.ahead e.kind (subst (λ (s : List ℕ). CauseAt mid.grammar s f.ahead e.kind) none f.cause) in
     let at : EndsAt input frames Stopped mid.position = record {
       rest = rest_of mid;
       last = mid.grammar;
-      longest = record { taken = g.core.here; parts = g.core.parts; run = g.core.run; ends = (some, fault_is_no_frame mid.grammar (rest_of mid) f.place e.kind left f.fault) };
+      longest = record { taken = g.core.here; parts = g.core.parts; run = g.core.run; ends = (some, cause_is_no_frame mid.grammar (rest_of mid) f.ahead e.kind left f.cause) };
       place_is = place_of (new_decoder input version) mid frames g inside;
     } in
     subst (λ (d : DecoderState). EndsAt input frames Stopped d.position) (sym f.same) at

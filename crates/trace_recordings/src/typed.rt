@@ -112,28 +112,28 @@ fn is_of(sample: Sample, slot: u64, entry: &SchemaEntry) -> bool
     ensures { result ≡ is_sample slot entry.now sample }
 {
     match sample {
-        Sample::FastSlot => is_type::<FastSlot>(slot, entry),
-        Sample::Poll => is_type::<Poll>(slot, entry),
-        Sample::Texts => is_type::<Texts>(slot, entry),
-        Sample::Stacks => is_type::<Stacks>(slot, entry),
-        Sample::Annotated => is_type::<Annotated>(slot, entry),
-        Sample::LastSlot => is_type::<LastSlot>(slot, entry),
-        Sample::ByName => is_type::<ByName>(slot, entry),
-        Sample::Dynamic => is_type::<Dynamic>(slot, entry),
-        Sample::PollAgain => is_type::<PollAgain>(slot, entry),
-        Sample::PollAnnotated => is_type::<PollAnnotated>(slot, entry),
-        Sample::SlotClash => is_type::<SlotClash>(slot, entry),
-        Sample::AlsoByName => is_type::<AlsoByName>(slot, entry),
-        Sample::Nameless => is_type::<Nameless>(slot, entry),
-        Sample::Borrowed => is_type::<Borrowed<'_>>(slot, entry),
-        Sample::Numbers => is_type::<Numbers>(slot, entry),
-        Sample::Options => is_type::<Options>(slot, entry),
-        Sample::Wide => is_type::<Wide>(slot, entry),
+        Sample::FastSlot => is_sample_type::<FastSlot>(slot, entry),
+        Sample::Poll => is_sample_type::<Poll>(slot, entry),
+        Sample::Texts => is_sample_type::<Texts>(slot, entry),
+        Sample::Stacks => is_sample_type::<Stacks>(slot, entry),
+        Sample::Annotated => is_sample_type::<Annotated>(slot, entry),
+        Sample::LastSlot => is_sample_type::<LastSlot>(slot, entry),
+        Sample::ByName => is_sample_type::<ByName>(slot, entry),
+        Sample::Dynamic => is_sample_type::<Dynamic>(slot, entry),
+        Sample::PollAgain => is_sample_type::<PollAgain>(slot, entry),
+        Sample::PollAnnotated => is_sample_type::<PollAnnotated>(slot, entry),
+        Sample::SlotClash => is_sample_type::<SlotClash>(slot, entry),
+        Sample::AlsoByName => is_sample_type::<AlsoByName>(slot, entry),
+        Sample::Nameless => is_sample_type::<Nameless>(slot, entry),
+        Sample::Borrowed => is_sample_type::<Borrowed<'_>>(slot, entry),
+        Sample::Numbers => is_sample_type::<Numbers>(slot, entry),
+        Sample::Options => is_sample_type::<Options>(slot, entry),
+        Sample::Wide => is_sample_type::<Wide>(slot, entry),
     }
 }
 
 // Whether a type has this slot and this schema.
-fn is_type<T: TraceEvent>(slot: u64, entry: &SchemaEntry) -> bool
+fn is_sample_type<T: TraceEvent>(slot: u64, entry: &SchemaEntry) -> bool
     ensures { result ≡ (slot == T.slot) && same_entry entry.now T.entry }
 {
     u64::from(T::type_slot()) == slot && T::is_entry(entry)

@@ -170,15 +170,15 @@ fn texts_of(alloc: Global, pairs: &[(Vec<u8>, Vec<u8>)]) -> Result<Vec<(String, 
 {
     let mut made = Vec::new(alloc);
     for (key, value) in pairs {
-        let key = text_of(alloc, key)?;
-        let value = text_of(alloc, value)?;
+        let key = utf8_text(alloc, key)?;
+        let value = utf8_text(alloc, value)?;
         made.push((key, value))?;
     }
     Ok(made)
 }
 
 // The bytes as a text, where they are UTF-8.
-fn text_of(alloc: Global, bytes: &[u8]) -> Result<String, Unheld>
+fn utf8_text(alloc: Global, bytes: &[u8]) -> Result<String, Unheld>
     ensures { IfOk result (λ text. string_bytes text ≡ bytes.now) }
 {
     match str::from_utf8(bytes) {

@@ -2,12 +2,13 @@
 
 use crate::tests::told::{KINDS, breaking, check_told, kind_of, once, stepping, unsettling};
 use crate::tests::traces::{HEADER, ONE_EVENT};
-use dial9_trace_format::leb128::{Faults, TraceWrite};
+use dial9_trace_format::leb128::TraceWrite;
 use std::alloc::Global;
 use std::io::ErrorKind;
 use std::process::Abort;
 use trace_lines::dump::{FAILED, NO_HEADER, STOPPED, WHOLE, dump};
 use trace_samples::{Manner, Told};
+use trace_values::leb128::Faults;
 
 /// The lines of one event.
 const LINES: &str =

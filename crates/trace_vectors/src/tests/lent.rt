@@ -4,11 +4,12 @@ ghost use Rattle.trace_samples.specs.Telling.{all_told};
 
 use crate::tests::told::{KINDS, breaking, check_told, kind_of, once};
 use dial9_trace_format::encoder::Encoder;
-use dial9_trace_format::leb128::{EncodeError, Faults, TraceWrite};
+use dial9_trace_format::leb128::{EncodeError, TraceWrite};
 use std::alloc::Global;
 use std::io;
 use std::process::Abort;
 use trace_samples::{Manner, Told};
+use trace_values::leb128::Faults;
 
 /// The header of a trace.
 const HEADER: [u8; 5] = [0x54, 0x52, 0x43, 0x00, 0x01];

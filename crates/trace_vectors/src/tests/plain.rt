@@ -3,7 +3,7 @@
 use crate::tests::checks::check_refused;
 use crate::tests::traces::{ONE_EVENT, ev};
 use dial9_trace_format::encoder::Encoder;
-use dial9_trace_format::leb128::{EncodeError, Plain, TraceWrite, send_all};
+use dial9_trace_format::leb128::{EncodeError, Plain, TraceWrite};
 use dial9_trace_format::types::FieldValue;
 use std::alloc::Global;
 use std::io;
@@ -11,6 +11,7 @@ use std::io::{ErrorKind, Write};
 use std::process::Abort;
 use std::test::Fail;
 use trace_lines::dump::{FAILED, WHOLE, dump};
+use trace_values::leb128::send_all;
 use trace_values::leb128::send_bytes;
 
 /// Takes so many bytes a call, keeps count of its calls, and fails writes and flushes by these kinds.

@@ -7,13 +7,14 @@ use crate::tests::told::{breaking, check_told, stepping};
 use crate::tests::traces::{ONE_EVENT, THREE_EVENTS, ev, one_field};
 use dial9_trace_format::decoder::Decoder;
 use dial9_trace_format::encoder::{Encoder, RawEncoder, Schema};
-use dial9_trace_format::leb128::{EncodeError, Faults};
+use dial9_trace_format::leb128::EncodeError;
 use dial9_trace_format::types::{FieldType, FieldValue};
 use std::alloc::Global;
 use std::io::ErrorKind;
 use std::process::Abort;
 use std::test::Fail;
 use trace_samples::{Manner, Refusal, Told};
+use trace_values::leb128::Faults;
 
 /// A frame is read with owned values, one with borrowed values, one by an iterator, and one is shown to a sink, which refuses it.
 fn read_in_turn(rt: &impl Abort, decoder: &mut Decoder<'_>) -> Result<(), Fail> {

@@ -1,7 +1,7 @@
 //! Bytes, numbers and values sent to a writer that fails: what was answered, and what the writer tells of it.
 
 use crate::tests::told::{KINDS, breaking, check_told, kind_of, once, stepping, unsettling};
-use dial9_trace_format::leb128::{EncodeError, Faults, encode_unsigned, send_all};
+use dial9_trace_format::leb128::{EncodeError, encode_unsigned};
 use dial9_trace_format::types::FieldValue;
 use std::alloc::Global;
 use std::io::ErrorKind;
@@ -9,6 +9,7 @@ use std::process::Abort;
 use std::test::Fail;
 use trace_samples::{Manner, Told};
 use trace_values::leb128::send_bytes;
+use trace_values::leb128::{Faults, send_all};
 
 /// A call that sends to a writer.
 #[derive(Clone, Copy)]

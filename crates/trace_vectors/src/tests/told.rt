@@ -1,9 +1,9 @@
 //! Scripts of writers that fail, and what such a writer tells.
 
-use dial9_trace_format::leb128::Faults;
 use std::io::ErrorKind;
 use std::process::Abort;
 use trace_samples::{Failing, Manner, Refusal, Told};
+use trace_values::leb128::Faults;
 
 /// Ways to fail: an error, an interrupted write, and the answer 0.
 pub const KINDS: [Refusal; 3] = [

@@ -4,13 +4,14 @@ use crate::tests::told::{KINDS, breaking, check_told, kind_of, once, stepping, u
 use crate::tests::traces::{ONE_EVENT, ev, one_definition};
 use dial9_trace_format::codec::{PoolEntry, StackPoolEntry};
 use dial9_trace_format::encoder::Encoder;
-use dial9_trace_format::leb128::{EncodeError, Faults};
+use dial9_trace_format::leb128::EncodeError;
 use dial9_trace_format::types::{FieldType, FieldValue};
 use std::alloc::Global;
 use std::io::ErrorKind;
 use std::process::Abort;
 use std::test::Fail;
 use trace_samples::{Manner, Told};
+use trace_values::leb128::Faults;
 
 /// Header, and the pool frame of `hello` under 0.
 const TEXT: [u8; 23] = [
