@@ -11,11 +11,11 @@ use std::alloc::{AllocError, Global};
 
 // How many events were shown, up to the greatest number of 64 bits.
 #[derive(Drop)]
-struct Counter {
+struct EventCounter {
     events: u64,
 }
 
-impl<'a> EventVisitor<'a> for Counter {
+impl<'a> EventVisitor<'a> for EventCounter {
     ghost step = { counts };
 
     fn event(&mut self, _event: &RawEvent<'a, '_>) {
@@ -41,7 +41,7 @@ fn stream_lines(alloc: Global, decoder: &mut Decoder<'_>) -> Result<String, Allo
     requires fits { AreBytes (rest_of decoder.old) }
     ensures { IfOk result (λ lines. IsStreamSink decoder.old.input (string_bytes lines)) }
 {
-    let mut counter = Counter { events: 0 };
+    let mut counter = EventCounter { events: 0 };
     let ended = decoder.for_each_event(&mut counter);
     let told = told_of(alloc, &ended)?;
     told_lines(alloc, counter.events, &told, Decoder::position(decoder))
