@@ -19,17 +19,17 @@ use Rattle.dial9_trace_format.specs.declared.decoder.error.DecodeErrorKind.TheVa
 use Rattle.trace_wire.specs.declared.schema.WireTypeId.{WireTypeId}
 use Rattle.dial9_trace_format.proofs.DecoderRuns.{left_at, goes_inside}
 use Rattle.dial9_trace_format.proofs.CauseLemmas.{cause_is_no_frame}
-use Rattle.trace_recordings.specs.declared.sink.Counter.{Counter}
+use Rattle.trace_recordings.specs.declared.sink.EventCounter.{EventCounter}
 use Rattle.trace_recordings.specs.Tallies.{counted_up}
 use Rattle.trace_recordings.specs.Sinks.{counts, EndsAt, sink_text, IsStreamSink}
 
 -- ---- the count
 
-counted_more : (n : ℕ) (s m : Counter) → s.events ≡ counted_up 0 n → m.events ≡ counted_up s.events 1 → m.events ≡ counted_up 0 (n + 1)
+counted_more : (n : ℕ) (s m : EventCounter) → s.events ≡ counted_up 0 n → m.events ≡ counted_up s.events 1 → m.events ≡ counted_up 0 (n + 1)
 counted_more n s m is more = omega (arith, is, more)
 
-counted_from : (n : ℕ) (events : List ShownEvent) (s t : Counter) → s.events ≡ counted_up 0 n → Takes (visiting {S = Counter} {E = ⊥} counts) events s t → t.events ≡ counted_up 0 (n + length events)
-counted_from n [] s t is same = subst (λ (x : Counter). x.events ≡ counted_up 0 (n + 0)) same (is ∙ ap (counted_up 0) (omega arith))
+counted_from : (n : ℕ) (events : List ShownEvent) (s t : EventCounter) → s.events ≡ counted_up 0 n → Takes (visiting {S = EventCounter} {E = ⊥} counts) events s t → t.events ≡ counted_up 0 (n + length events)
+counted_from n [] s t is same = subst (λ (x : EventCounter). x.events ≡ counted_up 0 (n + 0)) same (is ∙ ap (counted_up 0) (omega arith))
 counted_from n (e ∷ events) s t is (m, one, more) =
     counted_from (n + 1) events m t (counted_more n s m is one) more ∙ ap (counted_up 0) (omega arith)
 
@@ -107,31 +107,31 @@ made input version frames end place count told text header ends whole is t = rec
   text_is = t ∙ ap (λ (n : ℕ). sink_text n told place) is;
 }
 
-count_of : (input : List ℕ) (version : ℕ) (mid : DecoderState) (frames : List Frame) (s t : Counter) → s.events ≡ 0 → TakesRun (visiting {S = Counter} {E = ⊥} counts) (new_decoder input version) mid frames s t → t.events ≡ counted_up 0 (length (events_of empty no_pools frames))
-count_of input version mid frames s t none run = counted_from 0 (events_of empty no_pools frames) s t (none ∙ omega arith) run.taken ∙ ap (counted_up 0) (omega arith)
+events_counted : (input : List ℕ) (version : ℕ) (mid : DecoderState) (frames : List Frame) (s t : EventCounter) → s.events ≡ 0 → TakesRun (visiting {S = EventCounter} {E = ⊥} counts) (new_decoder input version) mid frames s t → t.events ≡ counted_up 0 (length (events_of empty no_pools frames))
+events_counted input version mid frames s t none run = counted_from 0 (events_of empty no_pools frames) s t (none ∙ omega arith) run.taken ∙ ap (counted_up 0) (omega arith)
 
 fails_by : (input : List ℕ) (version : ℕ) (mid new : DecoderState) (e : DecodeError) (frames : List Frame) (failure : Failure) → 5 ≤ length input → Goes borrowed (new_decoder input version) mid frames → e.kind ≢ kinds.OutOfMemory → FailsBy borrowed mid new failure
     → e ≡ error_at new.position failure → EndsAt input frames Conflict new.position
 fails_by input version mid new e frames (failures.Conflict id) inside g some x is = ends_conflict input version mid new id frames inside g x
 fails_by input version mid new e frames failures.OutOfMemory inside g some x is = absurd (some (ap (λ (x : DecodeError). x.kind) is))
 
-from_start : (input : List ℕ) (version : ℕ) (new : DecoderState) (s t : Counter) (result : Result (Unit {0}) DecodeError) (told text : List ℕ) → StartsWith input version → 5 ≤ length input → AreBytes (drop 5 input) → s.events ≡ 0
-    → RunsSink (visiting {S = Counter} {E = ⊥} counts) (new_decoder input version) new s t (never_refused result) → IfOk result (λ u. told ≡ codes "ok") → IfErr result (λ e. e.kind ≢ kinds.OutOfMemory)
+from_start : (input : List ℕ) (version : ℕ) (new : DecoderState) (s t : EventCounter) (result : Result (Unit {0}) DecodeError) (told text : List ℕ) → StartsWith input version → 5 ≤ length input → AreBytes (drop 5 input) → s.events ≡ 0
+    → RunsSink (visiting {S = EventCounter} {E = ⊥} counts) (new_decoder input version) new s t (never_refused result) → IfOk result (λ u. told ≡ codes "ok") → IfErr result (λ e. e.kind ≢ kinds.OutOfMemory)
     → text ≡ sink_text t.events told new.position → IsStreamSink input text
 from_start input version new s t (Ok u) told text header inside fits none (frames, run, done) ok memory is =
-    made input version frames Whole new.position t.events told text header (ends_whole input version new frames inside run.goes done) (λ w. ok) (count_of input version new frames s t none run) is
+    made input version frames Whole new.position t.events told text header (ends_whole input version new frames inside run.goes done) (λ w. ok) (events_counted input version new frames s t none run) is
 from_start input version new s t (Err e) told text header inside fits none (frames, mid, run, inl f) ok memory is =
-    made input version frames Stopped new.position t.events told text header (ends_stopped input version mid new e frames inside fits run.goes f) (λ w. absurd cc) (count_of input version mid frames s t none run) is
+    made input version frames Stopped new.position t.events told text header (ends_stopped input version mid new e frames inside fits run.goes f) (λ w. absurd cc) (events_counted input version mid frames s t none run) is
 from_start input version new s t (Err e) told text header inside fits none (frames, mid, run, inr f) ok memory is =
-    made input version frames Conflict new.position t.events told text header (fails_by input version mid new e frames f.failure inside run.goes memory f.fails f.error) (λ w. absurd cc) (count_of input version mid frames s t none run) is
+    made input version frames Conflict new.position t.events told text header (fails_by input version mid new e frames f.failure inside run.goes memory f.fails f.error) (λ w. absurd cc) (events_counted input version mid frames s t none run) is
 
-pub stream_sink : (r new : DecoderState) (s t : Counter) (result : Result (Unit {0}) DecodeError) (told : List ℕ) → StartsWith r.input r.version → r ≡ new_decoder r.input r.version → r.position ≤ length r.input → AreBytes (rest_of r) → s.events ≡ 0
-    → (r.failure ≡ None → RunsSink (visiting {S = Counter} {E = ⊥} counts) r new s t (never_refused result)) → IfOk result (λ u. told ≡ codes "ok") → IfErr result (λ e. e.kind ≢ kinds.OutOfMemory) → IsStreamSink r.input (sink_text t.events told new.position)
+pub stream_sink : (r new : DecoderState) (s t : EventCounter) (result : Result (Unit {0}) DecodeError) (told : List ℕ) → StartsWith r.input r.version → r ≡ new_decoder r.input r.version → r.position ≤ length r.input → AreBytes (rest_of r) → s.events ≡ 0
+    → (r.failure ≡ None → RunsSink (visiting {S = EventCounter} {E = ⊥} counts) r new s t (never_refused result)) → IfOk result (λ u. told ≡ codes "ok") → IfErr result (λ e. e.kind ≢ kinds.OutOfMemory) → IsStreamSink r.input (sink_text t.events told new.position)
 stream_sink r new s t result told header is inside fits none runs ok memory =
     let five : 5 ≤ length r.input = omega (arith, inside, ap (λ (d : DecoderState). d.position) is) in
     let bytes : AreBytes (drop 5 r.input) = subst (λ (d : DecoderState). AreBytes (rest_of d)) is fits in
-    let run : RunsSink (visiting {S = Counter} {E = ⊥} counts) (new_decoder r.input r.version) new s t (never_refused result) =
-    subst (λ (d : DecoderState). RunsSink (visiting {S = Counter} {E = ⊥} counts) d new s t (never_refused result)) is (runs (ap (λ (d : DecoderState). d.failure) is)) in
+    let run : RunsSink (visiting {S = EventCounter} {E = ⊥} counts) (new_decoder r.input r.version) new s t (never_refused result) =
+    subst (λ (d : DecoderState). RunsSink (visiting {S = EventCounter} {E = ⊥} counts) d new s t (never_refused result)) is (runs (ap (λ (d : DecoderState). d.failure) is)) in
     from_start r.input r.version new s t result told (sink_text t.events told new.position) header five bytes none run ok memory refl
 
 -- what holds of the text that was made, where one was

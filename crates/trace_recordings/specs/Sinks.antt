@@ -8,11 +8,11 @@ use Rattle.dial9_trace_format.specs.Decoding.{StartsWith}
 use Rattle.dial9_trace_format.specs.ShownEvents.{ShownEvent}
 use Rattle.dial9_trace_format.specs.Sinks.{events_of}
 use Rattle.trace_lines.specs.Lines.{line}
-use Rattle.trace_recordings.specs.declared.sink.Counter.{Counter}
+use Rattle.trace_recordings.specs.declared.sink.EventCounter.{EventCounter}
 use Rattle.trace_recordings.specs.Tallies.{counted_up}
 
 -- one more event was counted
-abbrev pub counts : Counter → ShownEvent → Counter → Type 0
+abbrev pub counts : EventCounter → ShownEvent → EventCounter → Type 0
 counts s e t = t.events ≡ counted_up s.events 1
 
 -- the place where the longest run over an input of a size ends before the rest, told by the bytes before it: before the rest, or

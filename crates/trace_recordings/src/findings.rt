@@ -40,7 +40,8 @@ pub struct Findings {
 }
 
 /// Plays the script of a recording, dumps its trace, by each reader and with resolved events, and shows its events to a sink, and compares
-/// what comes of it with the recording. Where the recorded bytes cannot be read that is told as a difference of the dump.
+/// what comes of it with the recording. Where the recorded bytes cannot be read that is told as a difference of the dump. An error where a growth
+/// was refused, by whichever of these.
 pub fn findings_of(alloc: Global, recording: Recording<'_>) -> Result<Findings, AllocError>
     ensures script { IfOk result (λ f. WhereRead recording.entry (λ trace. ShowsScript trace recording.entry.calls f.script)) }
     ensures dump { IfOk result (λ f. WhereRead recording.entry (λ trace. ShowsDump (Form.Frames Reader.Owned) trace recording.entry.dump.now f.dump)) }

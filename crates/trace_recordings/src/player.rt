@@ -36,18 +36,25 @@ pub struct Played {
 /// Why a script was not played to its end. Lines count from 1.
 #[derive(Debug, Drop, Error)]
 pub enum PlayError {
+    /// A line cannot be read.
     #[error("{0}")]
     Script(ScriptError),
+    /// The line makes a type of events that is none of the samples.
     #[error("line {line}: no sample type is this `{call}`")]
     LeftOut { line: usize, call: &'static str },
+    /// No schema, or no type, was defined before the line under the handle that it names.
     #[error("line {line}: no schema has the handle {handle}")]
     Unknown { line: usize, handle: u64 },
+    /// The type of the line's event takes no such values: others, more or fewer.
     #[error("line {line}: the type has no event of these values")]
     Unheld { line: usize },
+    /// The line goes on after an output at whose front no header stands.
     #[error("line {line}: the output begins with no header")]
     Headless { line: usize },
+    /// There was no memory for the first header.
     #[error("no encoder: {0}")]
     Encoder(EncodeError),
+    /// A growth was refused.
     #[error("out of memory")]
     Memory,
 }
@@ -93,6 +100,11 @@ impl<T: Drop> From<AllocFailed<T>> for PlayError {
 }
 
 /// Reads a script, and makes its calls in their order. A script with a type that is none of the samples is not begun.
+///
+/// What the encoder refuses is a reply. This refuses, in this order: `Script` with the first line that cannot be read, as `script_of` tells it;
+/// `LeftOut` at the first type that is none of the samples; `Encoder(Writer(OutOfMemory))` where there is no memory for the header; and then, at
+/// the first such line, `Unknown` where no schema or type has the handle, `Unheld` where the type has no event of these values, `Headless` of a
+/// `resume` where no header stands at the front of the output. `Memory` where a growth was refused once the script was read.
 #[tactic(auto, using(crate::proofs::RefusalLemmas::not_begun, crate::proofs::RefusalLemmas::no_player))]
 pub fn play(alloc: Global, text: &[u8]) -> Result<Played, PlayError>
     ensures played { IfOk result (λ played. IsPlayed text.now played.bytes.items (string_bytes played.replies)) }

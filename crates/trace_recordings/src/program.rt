@@ -7,7 +7,7 @@ ghost use Rattle.trace_recordings.specs.Program.{AsksToReplay, Answers, status_w
 use crate::findings::{Findings, PartFinding, findings_of};
 use crate::player::{PlayError, Played, play};
 use crate::recording::recordings_of;
-use crate::tally::Tally;
+use crate::tally::SetTally;
 use anyhow::Context;
 use std::alloc::{AllocError, Global};
 use std::io::{ErrorKind, Read, Write};
@@ -117,7 +117,7 @@ fn replay_set(rt: &(impl AllocGlobal + Files + Print), set: &str) -> anyhow::Res
     let name = format!(in alloc; "{set}.txt")?;
     let file = fs::read_to_string(rt, name.as_str()).context(format_args!("reading {name}"))?;
     let recordings = recordings_of(alloc, file.as_str()).context(format_args!("reading {name}"))?;
-    let mut tally = Tally::new(alloc);
+    let mut tally = SetTally::new(alloc);
     for recording in &recordings {
         let findings = findings_of(alloc, *recording)?;
         print_findings(rt, set, recording.name, &findings)?;
@@ -165,7 +165,7 @@ fn play_input(rt: &(impl AllocGlobal + Input + Print + Eprint)) -> anyhow::Resul
 }
 
 /// What is answered where a script was played, or was not: the trace and the replies with `GOOD`; or nothing and the
-/// reason, with `UNREADABLE` where the script is at fault and `BAD` where it is not.
+/// reason, with `UNREADABLE` where the script is at fault and `BAD` where it is not. An error where there is no memory for the reason.
 pub fn answer_of(alloc: Global, played: Result<Played, PlayError>) -> Result<Answer, AllocError>
     ensures { IfOk result (Answers played) }
 {

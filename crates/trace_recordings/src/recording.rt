@@ -46,10 +46,13 @@ pub struct Readings<'a> {
 /// Why a file of recordings cannot be read.
 #[derive(Clone, Copy, Debug, PartialEq, Eq, Error)]
 pub enum RecordingError {
+    /// The file has no empty line, or begins with one.
     #[error("the file has no head that an empty line ends")]
     Head,
+    /// The recording of this number, from 1, has no end, or not the marks of its parts in their order.
     #[error("recording {0} of the file has not its parts")]
     Parts(usize),
+    /// A growth was refused.
     #[error("out of memory")]
     Memory,
 }
@@ -62,7 +65,8 @@ impl<T: Drop> From<AllocFailed<T>> for RecordingError {
     }
 }
 
-/// Reads a file: its head up to the first empty line, and the recordings, each of which stands there whole.
+/// Reads a file: its head up to the first empty line, and the recordings, each of which stands there whole. `Head` where the file has no
+/// empty line, or begins with one; `Parts` with the number of the first recording, from 1, that is not whole; `Memory` where a growth was refused.
 pub fn recordings_of(alloc: Global, file: &str) -> Result<Vec<Recording<'_>>, RecordingError>
     ensures { IfOk result (λ v. IsFile v.items file.now) }
 {

@@ -11,11 +11,11 @@ use std::alloc::{AllocError, Global};
 
 // How many events were shown, up to the greatest number of 64 bits.
 #[derive(Drop)]
-struct Counter {
+struct EventCounter {
     events: u64,
 }
 
-impl<'a> EventVisitor<'a> for Counter {
+impl<'a> EventVisitor<'a> for EventCounter {
     ghost step = { counts };
 
     fn event(&mut self, _event: &RawEvent<'a, '_>) {
@@ -23,7 +23,8 @@ impl<'a> EventVisitor<'a> for Counter {
     }
 }
 
-/// The lines of what a sink is given of a trace: how many events, how that ended, and at which place; or that no header stands there.
+/// The lines of what a sink is given of a trace: how many events, how that ended, and at which place; or that no header stands there. An error
+/// where a growth was refused, the reader's included.
 pub fn sink_lines(alloc: Global, trace: &[u8]) -> Result<String, AllocError>
     ensures { IfOk result (λ lines. IsSinkText trace.now (string_bytes lines)) }
 {
@@ -41,7 +42,7 @@ fn stream_lines(alloc: Global, decoder: &mut Decoder<'_>) -> Result<String, Allo
     requires fits { AreBytes (rest_of decoder.old) }
     ensures { IfOk result (λ lines. IsStreamSink decoder.old.input (string_bytes lines)) }
 {
-    let mut counter = Counter { events: 0 };
+    let mut counter = EventCounter { events: 0 };
     let ended = decoder.for_each_event(&mut counter);
     let told = told_of(alloc, &ended)?;
     told_lines(alloc, counter.events, &told, Decoder::position(decoder))

@@ -9,7 +9,7 @@ use std::fmt;
 
 /// What was compared of a set of recordings, and what was left out.
 #[derive(Drop)]
-pub struct Tally {
+pub struct SetTally {
     recordings: u64,
     scripts: Parts,
     dumps: Parts,
@@ -31,15 +31,15 @@ struct LeftOut {
     count: u64,
 }
 
-impl Tally {
+impl SetTally {
     /// Nothing was compared yet.
-    pub fn new(alloc: Global) -> Tally
+    pub fn new(alloc: Global) -> SetTally
         ensures recordings { result.recordings ≡ 0 }
         ensures scripts { seen_in result.scripts ≡ nothing_seen }
         ensures dumps { seen_in result.dumps ≡ nothing_seen }
         ensures readings { seen_in result.readings ≡ nothing_seen }
     {
-        Tally {
+        SetTally {
             recordings: 0,
             scripts: Parts::new(alloc),
             dumps: Parts::new(alloc),
@@ -47,7 +47,7 @@ impl Tally {
         }
     }
 
-    /// Counts a recording.
+    /// Counts a recording. An error where a growth was refused: parts of it may be counted then.
     pub fn add(&mut self, findings: &Findings) -> Result<(), AllocError>
         ensures recordings { OnOk result (self.new.recordings ≡ counted_up self.old.recordings 1) }
         ensures scripts { OnOk result (seen_in self.new.scripts ≡ with_outcome findings.now.script (seen_in self.old.scripts)) }
@@ -132,7 +132,7 @@ impl fmt::Display for Parts {
     }
 }
 
-impl fmt::Display for Tally {
+impl fmt::Display for SetTally {
     fn fmt<W: fmt::Write>(&self, f: &mut fmt::Formatter<W>) -> fmt::Result {
         let recordings = self.recordings;
         let scripts = &self.scripts;

@@ -139,7 +139,8 @@ fn is_sample_type<T: TraceEvent>(slot: u64, entry: &SchemaEntry) -> bool
     u64::from(T::type_slot()) == slot && T::is_entry(entry)
 }
 
-/// Writes the event of a sample type that has these values.
+/// Writes the event of a sample type that has these values. What the encoder refuses is the reply. `Unfit` where the type has no event of these
+/// values, and `Memory` where a growth for the event was refused: the encoder is not called then.
 pub fn write_sample(
     alloc: Global,
     encoder: &mut Encoder,

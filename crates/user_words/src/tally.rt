@@ -32,6 +32,7 @@ impl Tally {
     }
 }
 
+/// Counts the event. `Full` where `u64::MAX` were counted; the count stays as it is then.
 impl<'a> EventSink<'a, Full> for Tally {
     ghost step = { tallies };
 
@@ -46,7 +47,9 @@ impl<'a> EventSink<'a, Full> for Tally {
     }
 }
 
-/// Counts the events that are left. Where none is refused and the input is read to its end, all are counted.
+/// Counts the events that are left. Where none is refused and the input is read to its end, all are counted. Refuses what
+/// `Decoder::try_for_each_event` does: `User(Full)` at an event past `u64::MAX` of them; `Decode` where bytes are left that begin with no frame,
+/// and where the decoder has failed or fails here, by `DecodeErrorKind::Conflict` or `DecodeErrorKind::OutOfMemory`.
 pub fn tally_all(decoder: &mut Decoder<'_>, tally: &mut Tally) -> Result<(), TryForEachError<Full>>
     ensures { OnOk result (TalliesAll decoder.old decoder.new tally.old tally.new) }
 {

@@ -15,7 +15,12 @@ use hex::FromHex;
 use std::alloc::Global;
 use trace_values::types::FieldValue;
 
-/// Reads what a line asks for.
+/// Reads what a line asks for. A line that is empty or begins with `#`, and one that is `reset`, `resume` or `bare`, is never refused.
+///
+/// Of any other: `ScriptCall` where its first word is that of no call with parts; else the first fault of its parts, from left to right.
+/// `Mark(' ')` where a part has no space before it; `Number` of a handle, a slot or a time; what `definition_of`, `value_at`, `name_at`,
+/// `addresses_at`, `pool_texts` and `pool_stacks` refuse of what the call has; `Hexadecimal` of bytes; `Excess` where more stands after a
+/// handle, a text or addresses that end the call. `Memory` where a growth was refused.
 pub fn call_of(alloc: Global, line: &[u8]) -> Result<ScriptCall, LineError>
     ensures says { IfOk result (λ call. Says call line.now) }
     ensures unsaid { IfErr result (λ _. SaysNoWord line.now) }

@@ -11,8 +11,7 @@ use std::io::{ErrorKind, Write};
 use std::process::Abort;
 use std::test::Fail;
 use trace_lines::dump::{FAILED, WHOLE, dump};
-use trace_values::leb128::send_all;
-use trace_values::leb128::send_bytes;
+use trace_values::leb128::{send_all, send_bytes};
 
 /// Takes so many bytes a call, keeps count of its calls, and fails writes and flushes by these kinds.
 #[derive(Drop)]

@@ -8,8 +8,7 @@ use std::io::ErrorKind;
 use std::process::Abort;
 use std::test::Fail;
 use trace_samples::{Manner, Told};
-use trace_values::leb128::send_bytes;
-use trace_values::leb128::{Faults, send_all};
+use trace_values::leb128::{Faults, send_all, send_bytes};
 
 /// A call that sends to a writer.
 #[derive(Clone, Copy)]
