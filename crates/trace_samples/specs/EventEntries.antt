@@ -4,6 +4,7 @@ use Rattle.std.specs.Borrow.{Bor}
 use Rattle.trace_values.specs.declared.types.field_type.FieldType.{FieldType}
 use Rattle.trace_values.specs.declared.types.field_type.FieldType.TheVariants as types
 use Rattle.trace_wire.specs.Schemas.{Field, Annotation, Entry}
+use Rattle.trace_writer.specs.Calls.{bare_schema}
 
 -- a field of this name and type
 abbrev pub field : List ℕ → FieldType → Field
@@ -17,20 +18,16 @@ defined pair = field pair.0.now pair.1
 abbrev pub annotation : ℕ → List ℕ → List ℕ → Annotation
 annotation index key value = record { index = index; key = key; value = value }
 
--- a schema without annotations
-abbrev pub entry : List ℕ → List Field → Entry
-entry name fields = record { name = name; fields = fields; annotations = [] }
-
 -- ---- the schemas of the types
 
 abbrev pub fast_slot : Entry
-fast_slot = entry (codes "FastSlot") []
+fast_slot = bare_schema (codes "FastSlot") []
 
 abbrev pub other : Entry
-other = entry (codes "Other") []
+other = bare_schema (codes "Other") []
 
 abbrev pub last_slot : Entry
-last_slot = entry (codes "LastSlot") (field (codes "number") types.U16 ∷ [])
+last_slot = bare_schema (codes "LastSlot") (field (codes "number") types.U16 ∷ [])
 
 abbrev pub annotated_entry : Entry
 annotated_entry = record {
@@ -41,17 +38,17 @@ annotated_entry = record {
 }
 
 abbrev pub also : Entry
-also = entry (codes "Also") (field (codes "amount") types.I64 ∷ [])
+also = bare_schema (codes "Also") (field (codes "amount") types.I64 ∷ [])
 
 abbrev pub nameless : Entry
-nameless = entry (codes "") (field (codes "") types.Bool ∷ [])
+nameless = bare_schema (codes "") (field (codes "") types.Bool ∷ [])
 
 abbrev pub poll : Entry
-poll = entry (codes "Poll") (field (codes "worker") types.Varint ∷ field (codes "cpu") types.OptionalU32
+poll = bare_schema (codes "Poll") (field (codes "worker") types.Varint ∷ field (codes "cpu") types.OptionalU32
     ∷ field (codes "label") types.PooledString ∷ [])
 
 abbrev pub poll_again : Entry
-poll_again = entry (codes "Poll") (field (codes "worker") types.Varint ∷ field (codes "core") types.U8 ∷ [])
+poll_again = bare_schema (codes "Poll") (field (codes "worker") types.Varint ∷ field (codes "core") types.U8 ∷ [])
 
 abbrev pub poll_annotated : Entry
 poll_annotated = record {
@@ -62,33 +59,33 @@ poll_annotated = record {
 }
 
 abbrev pub texts_entry : Entry
-texts_entry = entry (codes "Texts") (field (codes "text") types.String ∷ field (codes "blob") types.Bytes
+texts_entry = bare_schema (codes "Texts") (field (codes "text") types.String ∷ field (codes "blob") types.Bytes
     ∷ field (codes "pairs") types.StringMap ∷ [])
 
 abbrev pub borrowed_entry : Entry
-borrowed_entry = entry (codes "Borrowed") (field (codes "path") types.String ∷ field (codes "body") types.Bytes
+borrowed_entry = bare_schema (codes "Borrowed") (field (codes "path") types.String ∷ field (codes "body") types.Bytes
     ∷ field (codes "note") types.OptionalString ∷ field (codes "rest") types.OptionalBytes ∷ [])
 
 abbrev pub stacks_entry : Entry
-stacks_entry = entry (codes "Stacks") (field (codes "frames") types.StackFrames ∷ field (codes "stack") types.PooledStackFrames ∷ [])
+stacks_entry = bare_schema (codes "Stacks") (field (codes "frames") types.StackFrames ∷ field (codes "stack") types.PooledStackFrames ∷ [])
 
 abbrev pub dynamic : Entry
-dynamic = entry (codes "Dynamic") (field (codes "items") types.DynamicList ∷ field (codes "table") types.DynamicMap ∷ [])
+dynamic = bare_schema (codes "Dynamic") (field (codes "items") types.DynamicList ∷ field (codes "table") types.DynamicMap ∷ [])
 
 abbrev pub numbers_entry : Entry
-numbers_entry = entry (codes "Numbers") (field (codes "byte") types.U8 ∷ field (codes "short") types.U16 ∷ field (codes "word") types.U32
+numbers_entry = bare_schema (codes "Numbers") (field (codes "byte") types.U8 ∷ field (codes "short") types.U16 ∷ field (codes "word") types.U32
     ∷ field (codes "long") types.Varint ∷ field (codes "signed") types.I64 ∷ field (codes "real") types.F64
     ∷ field (codes "flag") types.Bool ∷ [])
 
 abbrev pub options_entry : Entry
-options_entry = entry (codes "Options") (field (codes "byte") types.OptionalU8 ∷ field (codes "short") types.OptionalU16 ∷ field (codes "word") types.OptionalU32
+options_entry = bare_schema (codes "Options") (field (codes "byte") types.OptionalU8 ∷ field (codes "short") types.OptionalU16 ∷ field (codes "word") types.OptionalU32
     ∷ field (codes "long") types.OptionalVarint ∷ field (codes "signed") types.OptionalI64 ∷ field (codes "real") types.OptionalF64
     ∷ field (codes "flag") types.OptionalBool ∷ field (codes "text") types.OptionalString ∷ field (codes "blob") types.OptionalBytes
     ∷ field (codes "frames") types.OptionalStackFrames ∷ field (codes "label") types.OptionalPooledString ∷ field (codes "stack") types.OptionalPooledStackFrames
     ∷ field (codes "pairs") types.OptionalStringMap ∷ [])
 
 abbrev pub wide : Entry
-wide = entry (codes "Wide") (field (codes "v0") types.Varint ∷ field (codes "v1") types.Varint ∷ field (codes "v2") types.Varint
+wide = bare_schema (codes "Wide") (field (codes "v0") types.Varint ∷ field (codes "v1") types.Varint ∷ field (codes "v2") types.Varint
     ∷ field (codes "v3") types.Varint ∷ field (codes "v4") types.Varint ∷ field (codes "v5") types.Varint
     ∷ field (codes "v6") types.Varint ∷ field (codes "v7") types.Varint ∷ field (codes "v8") types.Varint
     ∷ field (codes "v9") types.Varint ∷ field (codes "v10") types.Varint ∷ field (codes "v11") types.Varint
