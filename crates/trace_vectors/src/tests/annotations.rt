@@ -4,7 +4,6 @@ use crate::tests::calls::{all, decoder_of, next_one};
 use dial9_trace_format::codec::WireTypeId;
 use dial9_trace_format::decoder::{DecodedFrame, Decoder};
 use dial9_trace_format::schema::{FieldAnnotation, SchemaRegistry};
-use std::process::Abort;
 use std::test::Fail;
 
 /// Header, schema `Ev`, the annotation of field 0 with `unit` and `ns`, under wire id 256, and the schema again.
@@ -15,79 +14,83 @@ const ANNOTATED: [u8; 52] = [
     0x01, 0x00, 0x76, 0x09,
 ];
 
-/// The annotation is `unit` and `ns` of field 0.
-fn check_unit(rt: &impl Abort, annotation: &FieldAnnotation) {
-    assert_eq!(rt; annotation.key(), "unit");
-    assert_eq!(rt; annotation.value(), "ns");
-    assert_eq!(rt; annotation.field_index(), 0);
+/// The annotations are that one of field 0 alone.
+fn are_unit(annotations: &[FieldAnnotation]) -> bool {
+    match annotations {
+        [it] => it.field_index() == 0 && it.key() == "unit" && it.value() == "ns",
+        _ => false,
+    }
 }
 
 /// The registry has that annotation alone under wire id 256, and no entry under 7.
-fn check_registry(rt: &impl Abort, registry: &SchemaRegistry) -> Result<(), Fail> {
-    let entry = registry.get(WireTypeId(256)).ok_or("no entry")?;
-    match entry.annotations() {
-        [annotation] => check_unit(rt, annotation),
-        _ => assert!(rt; false, "other annotations"),
+fn is_registered(registry: &SchemaRegistry) -> bool {
+    match registry.get(WireTypeId(256)) {
+        Some(entry) => are_unit(entry.annotations()) && registry.get(WireTypeId(7)).is_none(),
+        None => false,
     }
-    assert!(rt; registry.get(WireTypeId(7)).is_none());
-    Ok(())
 }
 
 /// The frame is the schema `Ev` without annotations.
-fn check_bare(rt: &impl Abort, frame: &DecodedFrame) {
+fn is_bare(frame: &DecodedFrame) -> bool {
     match frame {
-        DecodedFrame::Schema(entry) => {
-            assert_eq!(rt; entry.name(), "Ev");
-            assert_eq!(rt; entry.annotations().len(), 0);
-        }
-        _ => assert!(rt; false, "another frame"),
+        DecodedFrame::Schema(entry) => entry.name() == "Ev" && entry.annotations().is_empty(),
+        _ => false,
     }
 }
 
 /// The frame is the annotation of wire id 256.
-fn check_annotations(rt: &impl Abort, frame: &DecodedFrame) {
+fn is_annotation(frame: &DecodedFrame) -> bool {
     match frame {
         DecodedFrame::SchemaAnnotations {
             type_id: WireTypeId(256),
             annotations,
-        } => match annotations.as_slice() {
-            [annotation] => check_unit(rt, annotation),
-            _ => assert!(rt; false, "other annotations"),
-        },
-        _ => assert!(rt; false, "another frame"),
+        } => are_unit(annotations),
+        _ => false,
     }
 }
 
 /// The frames are those three.
-fn check_frames(rt: &impl Abort, frames: &[DecodedFrame]) {
+fn are_those(frames: &[DecodedFrame]) -> bool {
     match frames {
         [first, annotations, last] => {
-            check_bare(rt, first);
-            check_annotations(rt, annotations);
-            check_bare(rt, last);
+            is_bare(first) && is_annotation(annotations) && is_bare(last)
         }
-        _ => assert!(rt; false, "other frames"),
+        _ => false,
     }
 }
 
+/// The decoder gives the schema without annotations.
+fn gives_bare(decoder: &mut Decoder<'_>) -> Result<bool, Fail> {
+    Ok(is_bare(&next_one(decoder)?))
+}
+
+/// The decoder gives the annotation.
+fn gives_annotation(decoder: &mut Decoder<'_>) -> Result<bool, Fail> {
+    Ok(is_annotation(&next_one(decoder)?))
+}
+
 /// The decoder gives those three frames, one by one.
-fn check_one_by_one(rt: &impl Abort, decoder: &mut Decoder<'_>) -> Result<(), Fail> {
-    check_bare(rt, &next_one(decoder)?);
-    check_annotations(rt, &next_one(decoder)?);
-    check_bare(rt, &next_one(decoder)?);
-    Ok(())
+fn gives_those(decoder: &mut Decoder<'_>) -> Result<bool, Fail> {
+    Ok(gives_bare(decoder)? && gives_annotation(decoder)? && gives_bare(decoder)?)
+}
+
+/// The decoder gives those three frames at once.
+fn gives_those_at_once(decoder: &mut Decoder<'_>) -> Result<bool, Fail> {
+    Ok(are_those(&all(decoder)?))
 }
 
 #[test]
 fn schemas_are_given_without_annotations(rt: HostRuntime) -> Result<(), Fail> {
     let mut decoder = decoder_of(rt.alloc(), &ANNOTATED)?;
-    check_one_by_one(&rt, &mut decoder)?;
-    check_registry(&rt, decoder.registry())
+    assert!(rt; gives_those(&mut decoder)?);
+    assert!(rt; is_registered(decoder.registry()));
+    Ok(())
 }
 
 #[test]
 fn schemas_are_given_at_once_without_annotations(rt: HostRuntime) -> Result<(), Fail> {
     let mut decoder = decoder_of(rt.alloc(), &ANNOTATED)?;
-    check_frames(&rt, &all(&mut decoder)?);
-    check_registry(&rt, decoder.registry())
+    assert!(rt; gives_those_at_once(&mut decoder)?);
+    assert!(rt; is_registered(decoder.registry()));
+    Ok(())
 }

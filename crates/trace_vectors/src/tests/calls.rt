@@ -98,6 +98,13 @@ pub fn all_of(alloc: Global, bytes: &[u8]) -> Result<Vec<DecodedFrame>, Fail> {
     all(&mut decoder)
 }
 
+/// A decoder that gave all frames.
+pub fn read_out(alloc: Global, bytes: &[u8]) -> Result<Decoder<'_>, Fail> {
+    let mut decoder = decoder_of(alloc, bytes)?;
+    let _frames = all(&mut decoder)?;
+    Ok(decoder)
+}
+
 /// `Decoder::into_encoder`, over a new vector.
 pub fn into_encoder(alloc: Global, decoder: Decoder<'_>) -> Result<Encoder, EncodeError> {
     decoder.into_encoder(Vec::new(alloc))

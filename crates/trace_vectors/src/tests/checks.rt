@@ -9,41 +9,31 @@ use std::test::Fail;
 
 /// The number is this one.
 pub fn check_number(rt: &impl Abort, found: u64, wanted: u64) {
-    assert_eq!(rt; found, wanted);
+    assert!(rt; found == wanted);
 }
 
 /// The bytes are these.
 pub fn check_bytes(rt: &impl Abort, found: &[u8], wanted: &[u8]) {
-    assert_eq!(rt; found, wanted);
+    assert!(rt; found == wanted);
 }
 
 /// The call was refused by this fault.
 pub fn check_refused(rt: &impl Abort, found: Option<EncodeError>, wanted: EncodeError) {
-    assert_eq!(rt; found, Some(wanted));
-}
-
-/// The decoder stands at this place.
-pub fn check_place(rt: &impl Abort, decoder: &Decoder<'_>, place: usize) {
-    assert_eq!(rt; Decoder::position(decoder), place);
+    assert!(rt; found == Some(wanted));
 }
 
 /// No frame stands at the decoder's place, which is then this one.
-pub fn check_end(rt: &impl Abort, decoder: &mut Decoder<'_>, place: usize) -> Result<(), Fail> {
-    assert!(rt; next(decoder)?.is_none());
-    check_place(rt, decoder, place);
-    Ok(())
+pub fn is_ended(decoder: &mut Decoder<'_>, place: usize) -> Result<bool, Fail> {
+    Ok(next(decoder)?.is_none() && Decoder::position(decoder) == place)
+}
+
+/// How many frames `decode_all` gives.
+pub fn count_all(decoder: &mut Decoder<'_>) -> Result<usize, Fail> {
+    Ok(all(decoder)?.len())
 }
 
 /// `decode_all` gives so many frames, and the place is then this one.
-pub fn check_all(
-    rt: &impl Abort,
-    alloc: Global,
-    bytes: &[u8],
-    count: usize,
-    place: usize,
-) -> Result<(), Fail> {
+pub fn reads_all(alloc: Global, bytes: &[u8], count: usize, place: usize) -> Result<bool, Fail> {
     let mut decoder = decoder_of(alloc, bytes)?;
-    assert_eq!(rt; all(&mut decoder)?.len(), count);
-    check_place(rt, &decoder, place);
-    Ok(())
+    Ok(count_all(&mut decoder)? == count && decoder.position() == place)
 }

@@ -2,57 +2,60 @@
 
 use dial9_trace_format::schema::{FieldAnnotation, FieldDef, SchemaEntry};
 use dial9_trace_format::types::FieldType;
-use std::alloc::Global;
-use std::process::Abort;
+use std::alloc::{AllocError, Global};
 use std::test::Fail;
 
-/// The field is `v`, of type Varint.
-fn check_field(rt: &impl Abort, field: &FieldDef) {
-    assert_eq!(rt; field.name(), "v");
-    assert_eq!(rt; field.field_type(), FieldType::Varint);
+/// The annotation is `unit` and `ns` of field 7.
+fn is_unit(annotation: &FieldAnnotation) -> bool {
+    annotation.field_index() == 7 && annotation.key() == "unit" && annotation.value() == "ns"
 }
 
-/// The annotation is `unit` and `ns` of field 7.
-fn check_annotation(rt: &impl Abort, annotation: &FieldAnnotation) {
-    assert_eq!(rt; annotation.field_index(), 7);
-    assert_eq!(rt; annotation.key(), "unit");
-    assert_eq!(rt; annotation.value(), "ns");
+/// The annotations are so many of that one.
+fn are_units(annotations: &[FieldAnnotation], count: usize) -> bool {
+    for annotation in annotations {
+        if !is_unit(annotation) {
+            return false;
+        }
+    }
+    annotations.len() == count
+}
+
+/// The fields are `v`, of type Varint, alone.
+fn are_v(fields: &[FieldDef]) -> bool {
+    match fields {
+        [field] => field.name() == "v" && field.field_type() == FieldType::Varint,
+        _ => false,
+    }
 }
 
 /// The entry is `Ev` with that field and so many of that annotation.
-fn check_entry(rt: &impl Abort, entry: &SchemaEntry, count: usize) {
-    assert_eq!(rt; entry.name(), "Ev");
-    match entry.fields() {
-        [field] => check_field(rt, field),
-        _ => assert!(rt; false, "other fields"),
-    }
-    assert_eq!(rt; entry.annotations().len(), count);
-    for annotation in entry.annotations() {
-        check_annotation(rt, annotation);
-    }
+fn is_ev(entry: &SchemaEntry, count: usize) -> bool {
+    entry.name() == "Ev" && are_v(entry.fields()) && are_units(entry.annotations(), count)
 }
 
 /// The copy of the entry is equal to it until it has one annotation more.
-fn check_copy(
-    rt: &impl Abort,
+fn is_copied(
     alloc: Global,
     entry: &SchemaEntry,
     annotations: &[FieldAnnotation],
-) -> Result<(), Fail> {
+) -> Result<bool, AllocError> {
     let mut copy = entry.clone(alloc)?;
-    check_entry(rt, &copy, 1);
-    assert!(rt; copy == *entry);
+    let is_equal = is_ev(&copy, 1) && copy == *entry;
     copy.push_annotation_copies(alloc, annotations)?;
-    check_entry(rt, &copy, 2);
-    assert!(rt; copy != *entry);
-    Ok(())
+    Ok(is_equal && is_ev(&copy, 2) && copy != *entry)
+}
+
+/// The entry of this field and this annotation is that, and its copy too.
+fn are_copied(alloc: Global, field: FieldDef, unit: FieldAnnotation) -> Result<bool, AllocError> {
+    let annotations = [unit];
+    let entry = SchemaEntry::with_annotations(alloc, "Ev", &[field], &annotations)?;
+    Ok(is_ev(&entry, 1) && is_copied(alloc, &entry, &annotations)?)
 }
 
 #[test]
 fn copied_entry(rt: HostRuntime) -> Result<(), Fail> {
-    let fields = [FieldDef::new(rt.alloc(), "v", FieldType::Varint)?];
-    let annotations = [FieldAnnotation::new(rt.alloc(), 7, "unit", "ns")?];
-    let entry = SchemaEntry::with_annotations(rt.alloc(), "Ev", &fields, &annotations)?;
-    check_entry(&rt, &entry, 1);
-    check_copy(&rt, rt.alloc(), &entry, &annotations)
+    let field = FieldDef::new(rt.alloc(), "v", FieldType::Varint)?;
+    let unit = FieldAnnotation::new(rt.alloc(), 7, "unit", "ns")?;
+    assert!(rt; are_copied(rt.alloc(), field, unit)?);
+    Ok(())
 }

@@ -1,6 +1,6 @@
 //! Dumps to a writer that fails: the status, and what the writer tells of it.
 
-use crate::tests::told::{KINDS, breaking, check_told, kind_of, once, stepping, unsettling};
+use crate::tests::told::{KINDS, breaking, check_told, kind_of, once, stepping, tells, unsettling};
 use crate::tests::traces::{HEADER, ONE_EVENT};
 use dial9_trace_format::leb128::TraceWrite;
 use std::alloc::Global;
@@ -24,21 +24,21 @@ fn lines_of(resolve: bool) -> &'static str {
 }
 
 /// The dump of one event stops where the writer fails, is not tried again, and does not settle.
-fn check_stopped(rt: &impl Abort, alloc: Global, manner: Manner, resolve: bool) {
+fn is_stopped(alloc: Global, manner: Manner, resolve: bool) -> bool {
     let mut told = Told::new(manner);
-    assert_eq!(rt; dump(alloc, &ONE_EVENT, &mut told, resolve), FAILED);
+    let status = dump(alloc, &ONE_EVENT, &mut told, resolve);
     let lines = lines_of(resolve).as_bytes();
     let lines = lines.get(..manner.place).unwrap_or(&[]);
     let faults = Faults::OneFault(kind_of(manner));
-    check_told(rt, &told, lines, faults, lines.is_empty());
+    status == FAILED && tells(&told, lines, faults, lines.is_empty())
 }
 
 /// The dump over writers that fail at each place of its lines, each way, always and once, in steps of this size.
 fn check_each_place(rt: &impl Abort, alloc: Global, step: usize, resolve: bool) {
     for place in 0..lines_of(resolve).len() {
         for refusal in KINDS {
-            check_stopped(rt, alloc, breaking(step, place, refusal), resolve);
-            check_stopped(rt, alloc, once(breaking(step, place, refusal)), resolve);
+            assert!(rt; is_stopped(alloc, breaking(step, place, refusal), resolve));
+            assert!(rt; is_stopped(alloc, once(breaking(step, place, refusal)), resolve));
         }
     }
 }
@@ -71,29 +71,29 @@ const DUMPS: [(&[u8], u8, &str); 4] = [
 ];
 
 /// The dump over a writer that takes so many bytes at a time: it is settled.
-fn check_settled(rt: &impl Abort, alloc: Global, row: (&[u8], u8, &str), step: usize) {
+fn is_settled(alloc: Global, row: (&[u8], u8, &str), step: usize) -> bool {
     let (bytes, status, lines) = row;
     let mut told = Told::new(stepping(step));
-    assert_eq!(rt; dump(alloc, bytes, &mut told, false), status);
-    check_told(rt, &told, lines.as_bytes(), Faults::NoFault, true);
+    let found = dump(alloc, bytes, &mut told, false);
+    found == status && tells(&told, lines.as_bytes(), Faults::NoFault, true)
 }
 
 /// The dump over a writer that fails to settle.
-fn check_unsettled(rt: &impl Abort, alloc: Global, row: (&[u8], u8, &str), kind: ErrorKind) {
+fn is_unsettled(alloc: Global, row: (&[u8], u8, &str), kind: ErrorKind) -> bool {
     let (bytes, _, lines) = row;
     let mut told = Told::new(unsettling(kind));
-    assert_eq!(rt; dump(alloc, bytes, &mut told, false), FAILED);
-    check_told(rt, &told, lines.as_bytes(), Faults::OneFault(kind), false);
+    let found = dump(alloc, bytes, &mut told, false);
+    found == FAILED && tells(&told, lines.as_bytes(), Faults::OneFault(kind), false)
 }
 
 #[test]
 fn dump_settles_what_it_wrote(rt: HostRuntime) {
     for row in DUMPS {
         for step in [1, 5, 1_024usize] {
-            check_settled(&rt, rt.alloc(), row, step);
+            assert!(rt; is_settled(rt.alloc(), row, step));
         }
         for kind in [ErrorKind::StorageFull, ErrorKind::Interrupted] {
-            check_unsettled(&rt, rt.alloc(), row, kind);
+            assert!(rt; is_unsettled(rt.alloc(), row, kind));
         }
     }
 }

@@ -22,18 +22,29 @@ const EACH_KIND: [u8; 86] = [
 ];
 
 /// The frame equals the one of this index, and no other.
-fn check_equal_alone(rt: &impl Abort, frame: &DecodedFrame, place: usize, frames: &[DecodedFrame]) {
+fn is_equal_alone(frame: &DecodedFrame, index: usize, frames: &[DecodedFrame]) -> bool {
     for (i, other) in frames.iter().enumerate() {
-        assert_eq!(rt; *frame == *other, i == place);
+        if (*frame == *other) != (i == index) {
+            return false;
+        }
+    }
+    true
+}
+
+/// The copy of the frame of this index equals it, and no other.
+fn is_copied(alloc: Global, index: usize, frames: &[DecodedFrame]) -> Result<bool, AllocError> {
+    match frames.get(index) {
+        Some(frame) => Ok(is_equal_alone(&frame.clone(alloc)?, index, frames)),
+        None => Ok(false),
     }
 }
 
 #[test]
 fn each_kind_copied(rt: HostRuntime) -> Result<(), Fail> {
     let frames = all_of(rt.alloc(), &EACH_KIND[..76])?;
-    assert_eq!(rt; frames.len(), 5);
-    for (i, frame) in frames.iter().enumerate() {
-        check_equal_alone(&rt, &frame.clone(rt.alloc())?, i, &frames);
+    assert!(rt; frames.len() == 5);
+    for index in 0..5usize {
+        assert!(rt; is_copied(rt.alloc(), index, &frames)?);
     }
     Ok(())
 }
@@ -57,11 +68,10 @@ const OF_AN_EVENT: [Reply; 3] = [
 ];
 
 /// The encoder makes those calls, and has those replies.
-fn check_event(rt: &impl Abort, alloc: Global, encoder: &mut Encoder) -> Result<(), Fail> {
+fn makes_event(alloc: Global, encoder: &mut Encoder) -> Result<bool, Fail> {
     let calls = calls_of_an_event(alloc)?;
     let replies = run(alloc, encoder, &calls)?;
-    assert_eq!(rt; replies.as_slice(), OF_AN_EVENT.as_slice());
-    Ok(())
+    Ok(replies.as_slice() == OF_AN_EVENT.as_slice())
 }
 
 /// The calls that make the pools.
@@ -75,28 +85,36 @@ fn calls_of_pools(alloc: Global) -> Result<[Call; 4], AllocError> {
     ])
 }
 
-/// The encoder makes those calls, and has their replies.
-fn check_pools(rt: &impl Abort, alloc: Global, encoder: &mut Encoder) -> Result<(), Fail> {
-    let calls = calls_of_pools(alloc)?;
-    let replies = run(alloc, encoder, &calls)?;
-    let wanted = [
-        Reply::Text(InternedString::from_raw(0)),
-        Reply::Stack(InternedStackFrames::from_raw(0)),
-        Reply::Done,
-        Reply::Done,
-    ];
-    assert_eq!(rt; replies.as_slice(), wanted.as_slice());
-    Ok(())
+/// The replies are those of the pools.
+fn are_of_pools(replies: &[Reply]) -> bool {
+    let text = Reply::Text(InternedString::from_raw(0));
+    let stack = Reply::Stack(InternedStackFrames::from_raw(0));
+    replies == [text, stack, Reply::Done, Reply::Done].as_slice()
 }
 
-/// What an encoder writes for these calls: the trace without the annotation.
+/// The encoder makes those calls, and has their replies.
+fn makes_pools(alloc: Global, encoder: &mut Encoder) -> Result<bool, Fail> {
+    let calls = calls_of_pools(alloc)?;
+    let replies = run(alloc, encoder, &calls)?;
+    Ok(are_of_pools(&replies))
+}
+
+/// What an encoder writes for all these calls.
+fn written(rt: &impl Abort, alloc: Global) -> Result<Vec<u8>, Fail> {
+    let mut encoder = fresh(alloc)?;
+    assert!(rt; makes_event(alloc, &mut encoder)?);
+    assert!(rt; makes_pools(alloc, &mut encoder)?);
+    Ok(encoder.finish())
+}
+
+/// The bytes are the trace without the annotation.
+fn is_each_but_annotation(bytes: &[u8]) -> bool {
+    bytes.get(..19) == Some(&EACH_KIND[..19]) && bytes.get(19..) == Some(&EACH_KIND[38..])
+}
+
 #[test]
 fn each_kind_by_calls(rt: HostRuntime) -> Result<(), Fail> {
-    let mut encoder = fresh(rt.alloc())?;
-    check_event(&rt, rt.alloc(), &mut encoder)?;
-    check_pools(&rt, rt.alloc(), &mut encoder)?;
-    let bytes = encoder.finish();
-    assert_eq!(rt; bytes.get(..19), Some(&EACH_KIND[..19]));
-    assert_eq!(rt; bytes.get(19..), Some(&EACH_KIND[38..]));
+    let bytes = written(&rt, rt.alloc())?;
+    assert!(rt; is_each_but_annotation(&bytes));
     Ok(())
 }

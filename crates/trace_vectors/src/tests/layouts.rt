@@ -56,7 +56,7 @@ fn runs_between_fields_of_open_width(rt: HostRuntime) -> Result<(), Fail> {
     for (types, steps) in LAYOUTS {
         let fields = fields_of(rt.alloc(), types)?;
         let layout = compile(rt.alloc(), &fields)?;
-        assert_eq!(rt; layout.steps(), steps);
+        assert!(rt; layout.steps() == steps);
     }
     Ok(())
 }

@@ -2,12 +2,12 @@
 
 ghost use Rattle.trace_samples.specs.Telling.{all_told};
 
-use crate::tests::told::{KINDS, breaking, check_told, kind_of, once};
+use crate::tests::told::{KINDS, breaking, kind_of, once, tells};
 use dial9_trace_format::encoder::Encoder;
 use dial9_trace_format::leb128::{EncodeError, TraceWrite};
 use std::alloc::Global;
 use std::io;
-use std::process::Abort;
+use std::io::ErrorKind;
 use trace_samples::{Manner, Told};
 use trace_values::leb128::Faults;
 
@@ -31,33 +31,28 @@ impl<'a> TraceWrite for Lent<'a> {
 }
 
 /// No encoder is made, by the fault of the writer.
-fn check_refused(rt: &impl Abort, alloc: Global, told: &mut Told, manner: Manner) {
+fn is_refused(alloc: Global, told: &mut Told, kind: ErrorKind) -> bool {
     match Encoder::new_to(alloc, Lent(told)) {
-        Ok(_) => assert!(rt; false, "no fault"),
-        Err(e) => assert_eq!(rt; e, EncodeError::Writer(kind_of(manner))),
+        Ok(_) => false,
+        Err(fault) => fault == EncodeError::Writer(kind),
     }
 }
 
 /// The header went out to where the writer failed, and was not tried again.
-fn check_dropped(rt: &impl Abort, alloc: Global, manner: Manner) {
+fn is_dropped(alloc: Global, manner: Manner) -> bool {
     let mut told = Told::new(manner);
-    check_refused(rt, alloc, &mut told, manner);
+    let kind = kind_of(manner);
+    let is_refused = is_refused(alloc, &mut told, kind);
     let sent = HEADER.get(..manner.place).unwrap_or(&[]);
-    check_told(
-        rt,
-        &told,
-        sent,
-        Faults::OneFault(kind_of(manner)),
-        sent.is_empty(),
-    );
+    is_refused && tells(&told, sent, Faults::OneFault(kind), sent.is_empty())
 }
 
 #[test]
 fn a_refused_encoder_tried_its_writer_once(rt: HostRuntime) {
     for place in 0..5usize {
         for refusal in KINDS {
-            check_dropped(&rt, rt.alloc(), breaking(1, place, refusal));
-            check_dropped(&rt, rt.alloc(), once(breaking(4, place, refusal)));
+            assert!(rt; is_dropped(rt.alloc(), breaking(1, place, refusal)));
+            assert!(rt; is_dropped(rt.alloc(), once(breaking(4, place, refusal))));
         }
     }
 }

@@ -1,6 +1,6 @@
 //! Numbers of one to ten bytes.
 
-use dial9_trace_format::leb128::{decode_unsigned, encode_unsigned};
+use dial9_trace_format::leb128::{EncodeError, decode_unsigned, encode_unsigned};
 use std::test::Fail;
 
 /// Bytes, and the number and the length that are read in front of them.
@@ -33,18 +33,28 @@ const WRITTEN: [(u64, &[u8]); 6] = [
     ),
 ];
 
-/// The numbers are read, and written in a row.
 #[test]
-fn numbers(rt: HostRuntime) -> Result<(), Fail> {
+fn numbers_are_read(rt: HostRuntime) {
     for (bytes, number) in READ {
-        assert_eq!(rt; decode_unsigned(bytes), number);
+        assert!(rt; decode_unsigned(bytes) == number);
     }
+}
+
+/// The number is written after what stands there, by these bytes, and read from them.
+fn is_spelled(out: &mut Vec<u8>, number: u64, bytes: &[u8]) -> Result<bool, EncodeError> {
+    let before = out.len();
+    encode_unsigned(number, out)?;
+    let read = decode_unsigned(bytes);
+    Ok(out.as_slice().get(before..) == Some(bytes) && read == Some((number, bytes.len())))
+}
+
+/// The numbers are written in a row.
+#[test]
+fn numbers_are_written(rt: HostRuntime) -> Result<(), Fail> {
     let mut out = Vec::new(rt.alloc());
     for (number, bytes) in WRITTEN {
-        let before = out.len();
-        encode_unsigned(number, &mut out)?;
-        assert_eq!(rt; out.as_slice().get(before..), Some(bytes));
-        assert_eq!(rt; decode_unsigned(bytes), Some((number, bytes.len())));
+        let is_spelled = is_spelled(&mut out, number, bytes)?;
+        assert!(rt; is_spelled, "at {number}");
     }
     Ok(())
 }

@@ -85,8 +85,8 @@ fn a_plain_writer_answers_the_error_of_its_writer(rt: HostRuntime) {
     for write in kinds {
         for flush in kinds {
             let mut plain = Plain(Counting::new(rt.alloc(), 1_000, Some(write), Some(flush)));
-            assert_eq!(rt; kind_of(plain.send(b"a")), Some(write));
-            assert_eq!(rt; kind_of(plain.settle()), Some(flush));
+            assert!(rt; kind_of(plain.send(b"a")) == Some(write));
+            assert!(rt; kind_of(plain.settle()) == Some(flush));
             check_counts(&rt, &plain.0, &[], 1, 1);
         }
     }
@@ -96,11 +96,8 @@ fn a_plain_writer_answers_the_error_of_its_writer(rt: HostRuntime) {
 fn the_error_of_a_plain_writer_is_the_fault(rt: HostRuntime) {
     let (write, flush) = (ErrorKind::PermissionDenied, ErrorKind::StorageFull);
     let mut plain = Plain(Counting::new(rt.alloc(), 1_000, Some(write), Some(flush)));
-    assert_eq!(rt;
-        send_bytes(&mut plain, b"a"),
-        Err(EncodeError::Writer(write))
-    );
-    assert_eq!(rt; dump(rt.alloc(), &ONE_EVENT, &mut plain, false), FAILED);
+    assert!(rt; send_bytes(&mut plain, b"a") == Err(EncodeError::Writer(write)));
+    assert!(rt; dump(rt.alloc(), &ONE_EVENT, &mut plain, false) == FAILED);
     check_refused(
         &rt,
         Encoder::new_to(rt.alloc(), plain).err(),
@@ -111,8 +108,7 @@ fn the_error_of_a_plain_writer_is_the_fault(rt: HostRuntime) {
 /// The writer took these bytes, in so many writes, and was flushed so often.
 fn check_counts(rt: &impl Abort, counting: &Counting, bytes: &[u8], writes: u64, flushes: u64) {
     assert!(rt; counting.bytes.as_slice() == bytes);
-    assert_eq!(rt; counting.writes, writes);
-    assert_eq!(rt; counting.flushes, flushes);
+    assert!(rt; (counting.writes, counting.flushes) == (writes, flushes));
 }
 
 /// One call of `send` makes one write, and `send_all` as many as its writer takes.
@@ -143,21 +139,27 @@ fn settling_flushes_once(rt: HostRuntime) -> Result<(), Fail> {
 #[test]
 fn a_dump_flushes_once(rt: HostRuntime) {
     let mut plain = Plain(Counting::new(rt.alloc(), 1_000, None, None));
-    assert_eq!(rt; dump(rt.alloc(), &ONE_EVENT, &mut plain, false), WHOLE);
-    assert_eq!(rt; plain.0.flushes, 1);
+    assert!(rt; dump(rt.alloc(), &ONE_EVENT, &mut plain, false) == WHOLE);
+    assert!(rt; plain.0.flushes == 1);
     let mut failing = Plain(Counting::new(rt.alloc(), 1_000, None, Some(ErrorKind::StorageFull)));
-    assert_eq!(rt; dump(rt.alloc(), &ONE_EVENT, &mut failing, false), FAILED);
-    assert_eq!(rt; failing.0.flushes, 1);
+    assert!(rt; dump(rt.alloc(), &ONE_EVENT, &mut failing, false) == FAILED);
+    assert!(rt; failing.0.flushes == 1);
+}
+
+/// An encoder over such a writer that has written the one event.
+fn encoder_of_one_event(alloc: Global) -> Result<Encoder<Plain<Counting>>, EncodeError> {
+    let schema = ev(alloc)?;
+    let counting = Counting::new(alloc, 3, None, None);
+    let mut encoder = Encoder::new_to(alloc, Plain(counting))?;
+    encoder.write_event(&schema, 1_000, &[FieldValue::Varint(42)])?;
+    Ok(encoder)
 }
 
 #[test]
 fn an_encoder_over_a_plain_writer(rt: HostRuntime) -> Result<(), Fail> {
-    let schema = ev(rt.alloc())?;
-    let mut encoder = Encoder::new_to(rt.alloc(), Plain(Counting::new(rt.alloc(), 3, None, None)))?;
-    encoder.write_event(&schema, 1_000, &[FieldValue::Varint(42)])?;
-    assert_eq!(rt; encoder.bytes_written(), 26);
+    let encoder = encoder_of_one_event(rt.alloc())?;
+    assert!(rt; encoder.bytes_written() == 26);
     let plain = encoder.into_inner();
-    assert_eq!(rt; plain.0.bytes.as_slice(), ONE_EVENT.as_slice());
-    assert_eq!(rt; plain.0.flushes, 0);
+    assert!(rt; plain.0.bytes.as_slice() == ONE_EVENT.as_slice() && plain.0.flushes == 0);
     Ok(())
 }

@@ -1,10 +1,9 @@
 //! The pools of texts and of stacks after all frames of a trace.
 
-use crate::tests::calls::{all, decoder_of};
+use crate::tests::calls::read_out;
 use dial9_trace_format::decoder::{StackPool, StringPool};
 use dial9_trace_format::types::{InternedStackFrames, InternedString};
 use std::alloc::Global;
-use std::process::Abort;
 use std::test::Fail;
 
 /// Traces of pools of texts, and the texts by rising id. The first has `hello` and `b` under 0, the second under 0 an entry that is no text.
@@ -41,27 +40,37 @@ const TEXTS: [(&[u8], &[(u32, &str)]); 4] = [
     ),
 ];
 
+/// What an iterator of the pool gives is this text under this id, and the pool holds it.
+fn is_text(pool: &StringPool, given: Option<(InternedString, &str)>, id: u32, text: &str) -> bool {
+    match given {
+        Some((found, held)) => {
+            found.raw_id() == id && held == text && pool.get(found) == Some(text)
+        }
+        None => false,
+    }
+}
+
 /// The pool holds these texts by rising id, and no others.
-fn check_texts(rt: &impl Abort, pool: &StringPool, texts: &[(u32, &str)]) -> Result<(), Fail> {
-    assert_eq!(rt; pool.len(), texts.len());
+fn has_texts(pool: &StringPool, texts: &[(u32, &str)]) -> bool {
     let mut held = pool.iter();
     for (id, text) in texts {
-        let (held_id, held_text) = held.next().ok_or("no text")?;
-        assert_eq!(rt; held_id.raw_id(), *id);
-        assert_eq!(rt; held_text, *text);
-        assert_eq!(rt; pool.get(held_id), Some(*text));
+        if !is_text(pool, held.next(), *id, *text) {
+            return false;
+        }
     }
-    assert!(rt; held.next().is_none());
-    assert_eq!(rt; pool.get(InternedString::from_raw(7)), None);
-    Ok(())
+    held.next().is_none() && pool.len() == texts.len()
+}
+
+/// After all frames the pool holds these texts by rising id, and no others.
+fn reads_texts(alloc: Global, bytes: &[u8], texts: &[(u32, &str)]) -> Result<bool, Fail> {
+    let decoder = read_out(alloc, bytes)?;
+    Ok(has_texts(decoder.string_pool(), texts))
 }
 
 #[test]
 fn texts_by_rising_id(rt: HostRuntime) -> Result<(), Fail> {
     for (bytes, texts) in TEXTS {
-        let mut decoder = decoder_of(rt.alloc(), bytes)?;
-        let _frames = all(&mut decoder)?;
-        check_texts(&rt, decoder.string_pool(), texts)?;
+        assert!(rt; reads_texts(rt.alloc(), bytes, texts)?);
     }
     Ok(())
 }
@@ -89,27 +98,42 @@ const STACKS: [(&[u8], &[(u32, &[u64])]); 2] = [
     ),
 ];
 
+/// What an iterator of the pool gives is this stack under this id, and the pool holds it.
+fn is_stack(
+    pool: &StackPool,
+    given: Option<(InternedStackFrames, &[u64])>,
+    id: u32,
+    stack: &[u64],
+) -> bool {
+    match given {
+        Some((found, held)) => {
+            found.raw_id() == id && held == stack && pool.get(found) == Some(stack)
+        }
+        None => false,
+    }
+}
+
 /// The pool holds these stacks by rising id, and no others.
-fn check_stacks(rt: &impl Abort, pool: &StackPool, stacks: &[(u32, &[u64])]) -> Result<(), Fail> {
-    assert_eq!(rt; pool.len(), stacks.len());
+fn has_stacks(pool: &StackPool, stacks: &[(u32, &[u64])]) -> bool {
     let mut held = pool.iter();
     for (id, stack) in stacks {
-        let (held_id, addresses) = held.next().ok_or("no stack")?;
-        assert_eq!(rt; held_id.raw_id(), *id);
-        assert_eq!(rt; addresses, *stack);
-        assert_eq!(rt; pool.get(held_id), Some(*stack));
+        if !is_stack(pool, held.next(), *id, *stack) {
+            return false;
+        }
     }
-    assert!(rt; held.next().is_none());
-    assert_eq!(rt; pool.get(InternedStackFrames::from_raw(7)), None);
-    Ok(())
+    held.next().is_none() && pool.len() == stacks.len()
+}
+
+/// After all frames the pool holds these stacks by rising id, and no others.
+fn reads_stacks(alloc: Global, bytes: &[u8], stacks: &[(u32, &[u64])]) -> Result<bool, Fail> {
+    let decoder = read_out(alloc, bytes)?;
+    Ok(has_stacks(decoder.stack_pool(), stacks))
 }
 
 #[test]
 fn stacks_by_rising_id(rt: HostRuntime) -> Result<(), Fail> {
     for (bytes, stacks) in STACKS {
-        let mut decoder = decoder_of(rt.alloc(), bytes)?;
-        let _frames = all(&mut decoder)?;
-        check_stacks(&rt, decoder.stack_pool(), stacks)?;
+        assert!(rt; reads_stacks(rt.alloc(), bytes, stacks)?);
     }
     Ok(())
 }
@@ -122,16 +146,23 @@ const EMPTIED: [u8; 46] = [
 ];
 
 /// The pools have so many texts and so many stacks after all frames.
-fn check_sizes(rt: &impl Abort, alloc: Global, bytes: &[u8], size: usize) -> Result<(), Fail> {
-    let mut decoder = decoder_of(alloc, bytes)?;
-    let _frames = all(&mut decoder)?;
-    assert_eq!(rt; decoder.string_pool().len(), size);
-    assert_eq!(rt; decoder.stack_pool().len(), size);
-    Ok(())
+pub fn reads_so_many(alloc: Global, bytes: &[u8], count: usize) -> Result<bool, Fail> {
+    let decoder = read_out(alloc, bytes)?;
+    Ok(decoder.string_pool().len() == count && decoder.stack_pool().len() == count)
+}
+
+/// The pools have no text and no stack under 7 after all frames.
+fn lacks_seven(alloc: Global, bytes: &[u8]) -> Result<bool, Fail> {
+    let decoder = read_out(alloc, bytes)?;
+    let text = decoder.string_pool().get(InternedString::from_raw(7));
+    let stack = decoder.stack_pool().get(InternedStackFrames::from_raw(7));
+    Ok(text.is_none() && stack.is_none())
 }
 
 #[test]
 fn a_header_empties_the_pools(rt: HostRuntime) -> Result<(), Fail> {
-    check_sizes(&rt, rt.alloc(), &EMPTIED[..41], 1)?;
-    check_sizes(&rt, rt.alloc(), &EMPTIED, 0)
+    assert!(rt; reads_so_many(rt.alloc(), &EMPTIED[..41], 1)?);
+    assert!(rt; reads_so_many(rt.alloc(), &EMPTIED, 0)?);
+    assert!(rt; lacks_seven(rt.alloc(), &EMPTIED[..41])?);
+    Ok(())
 }

@@ -1,14 +1,14 @@
 //! What a decoder gives.
 
-use crate::tests::calls::{all, all_of, decoder_of, next_one};
-use crate::tests::checks::{check_all, check_end, check_place};
+use crate::tests::calls::{all_of, decoder_of, next_one};
+use crate::tests::checks::{count_all, is_ended, reads_all};
+use crate::tests::sinks::is_fault;
 use crate::tests::traces::{CONFLICT, HEADER};
 use dial9_trace_format::codec::WireTypeId;
 use dial9_trace_format::decoder::{DecodeErrorKind, DecodedFrame, Decoder};
-use dial9_trace_format::schema::SchemaEntry;
+use dial9_trace_format::schema::FieldDef;
 use dial9_trace_format::types::{FieldType, FieldValue};
 use std::alloc::{AllocError, Global};
-use std::process::Abort;
 use std::test::Fail;
 
 /// Headers alone, and the version of the first.
@@ -21,84 +21,75 @@ const STREAMS: [(&[u8], u8); 2] = [
 ];
 
 /// The bytes are headers alone, the first of this version.
-fn check_streams(rt: &impl Abort, alloc: Global, bytes: &[u8], version: u8) -> Result<(), Fail> {
+fn are_headers(alloc: Global, bytes: &[u8], version: u8) -> Result<bool, Fail> {
     let mut decoder = decoder_of(alloc, bytes)?;
-    check_end(rt, &mut decoder, bytes.len())?;
-    assert_eq!(rt; decoder.version(), version);
-    assert_eq!(rt; decoder.data_len(), bytes.len());
-    Ok(())
+    let is_ended = is_ended(&mut decoder, bytes.len())?;
+    Ok(is_ended && decoder.version() == version && decoder.data_len() == bytes.len())
 }
 
 #[test]
 fn versions_of_headers(rt: HostRuntime) -> Result<(), Fail> {
     for (bytes, version) in STREAMS {
-        check_streams(&rt, rt.alloc(), bytes, version)?;
+        assert!(rt; are_headers(rt.alloc(), bytes, version)?);
     }
     Ok(())
 }
 
-/// The entry is the schema `Ev` of the field `v`.
-fn check_entry(rt: &impl Abort, entry: &SchemaEntry) {
-    assert_eq!(rt; entry.name(), "Ev");
-    match entry.fields() {
-        [field] => {
-            assert_eq!(rt; field.name(), "v");
-            assert_eq!(rt; field.field_type(), FieldType::Varint);
-        }
-        _ => assert!(rt; false, "other fields"),
+/// The fields are `v`, of type Varint, alone.
+fn are_v(fields: &[FieldDef]) -> bool {
+    match fields {
+        [field] => field.name() == "v" && field.field_type() == FieldType::Varint,
+        _ => false,
     }
 }
 
-/// The frame is the schema `Ev`.
-fn check_ev(rt: &impl Abort, frame: &DecodedFrame) {
+/// The frame is the schema `Ev` of that field.
+fn is_ev(frame: &DecodedFrame) -> bool {
     match frame {
-        DecodedFrame::Schema(entry) => check_entry(rt, entry),
-        _ => assert!(rt; false, "another frame"),
+        DecodedFrame::Schema(entry) => entry.name() == "Ev" && are_v(entry.fields()),
+        _ => false,
     }
 }
 
 /// The frame is the event of wire id 256 at 1,000 with 42.
-fn check_event(rt: &impl Abort, frame: &DecodedFrame) {
+fn is_event(frame: &DecodedFrame) -> bool {
     match frame {
         DecodedFrame::Event {
             type_id: WireTypeId(256),
             timestamp_ns: 1_000,
             values,
-        } => assert!(rt; matches!(values.as_slice(), [FieldValue::Varint(42)])),
-        _ => assert!(rt; false, "another frame"),
+        } => matches!(values.as_slice(), [FieldValue::Varint(42)]),
+        _ => false,
     }
 }
 
-/// The decoder gives the schema `Ev` and the event, and is after each then.
-fn check_frames(rt: &impl Abort, decoder: &mut Decoder<'_>) -> Result<(), Fail> {
-    check_ev(rt, &next_one(decoder)?);
-    check_place(rt, decoder, 19);
-    check_event(rt, &next_one(decoder)?);
-    check_place(rt, decoder, 26);
-    Ok(())
+/// The decoder gives the schema `Ev`, and is after it then.
+fn gives_ev(decoder: &mut Decoder<'_>) -> Result<bool, Fail> {
+    Ok(is_ev(&next_one(decoder)?) && Decoder::position(decoder) == 19)
+}
+
+/// The decoder gives the event, and is after it then.
+fn gives_event(decoder: &mut Decoder<'_>) -> Result<bool, Fail> {
+    Ok(is_event(&next_one(decoder)?) && Decoder::position(decoder) == 26)
 }
 
 /// The decoder gives the conflict of wire id 256, after the second schema.
-fn check_conflict(rt: &impl Abort, decoder: &mut Decoder<'_>) {
-    match decoder.next_frame() {
-        Ok(_) => assert!(rt; false, "no conflict"),
-        Err(fault) => {
-            assert_eq!(rt; fault.pos, 40);
-            assert_eq!(rt; fault.kind, DecodeErrorKind::Conflict(WireTypeId(256)));
-        }
-    }
-    check_place(rt, decoder, 40);
+fn gives_conflict(decoder: &mut Decoder<'_>) -> bool {
+    let is_told = match decoder.next_frame() {
+        Ok(_) => false,
+        Err(fault) => is_fault(&fault, &DecodeErrorKind::Conflict(WireTypeId(256)), 40),
+    };
+    is_told && Decoder::position(decoder) == 40
 }
 
 /// A conflict is told each time, and all frames before it are given at once.
 #[test]
 fn conflict(rt: HostRuntime) -> Result<(), Fail> {
-    check_all(&rt, rt.alloc(), &CONFLICT, 2, 40)?;
+    assert!(rt; reads_all(rt.alloc(), &CONFLICT, 2, 40)?);
     let mut decoder = decoder_of(rt.alloc(), &CONFLICT)?;
-    check_frames(&rt, &mut decoder)?;
-    check_conflict(&rt, &mut decoder);
-    check_conflict(&rt, &mut decoder);
-    assert_eq!(rt; all(&mut decoder)?.len(), 0);
+    assert!(rt; gives_ev(&mut decoder)? && gives_event(&mut decoder)?);
+    assert!(rt; gives_conflict(&mut decoder) && gives_conflict(&mut decoder));
+    assert!(rt; count_all(&mut decoder)? == 0);
     Ok(())
 }
 
@@ -114,13 +105,21 @@ fn streams_of_the_greatest_id(alloc: Global, count: usize) -> Result<Vec<u8>, Al
     Ok(bytes)
 }
 
+/// All frames of the trace are the schema `Ev`.
+fn are_all_ev(alloc: Global, bytes: &[u8]) -> Result<bool, Fail> {
+    for frame in &all_of(alloc, bytes)? {
+        if !is_ev(frame) {
+            return Ok(false);
+        }
+    }
+    Ok(true)
+}
+
 #[test]
 fn many_streams_of_the_greatest_id(rt: HostRuntime) -> Result<(), Fail> {
     let bytes = streams_of_the_greatest_id(rt.alloc(), 2_000)?;
-    assert_eq!(rt; bytes.len(), 38_000);
-    check_all(&rt, rt.alloc(), &bytes, 2_000, 38_000)?;
-    for frame in all_of(rt.alloc(), &bytes)? {
-        check_ev(&rt, &frame);
-    }
+    assert!(rt; bytes.len() == 38_000);
+    assert!(rt; reads_all(rt.alloc(), &bytes, 2_000, 38_000)?);
+    assert!(rt; are_all_ev(rt.alloc(), &bytes)?);
     Ok(())
 }

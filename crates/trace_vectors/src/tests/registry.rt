@@ -4,7 +4,6 @@ use dial9_trace_format::codec::WireTypeId;
 use dial9_trace_format::schema::{FieldDef, RegisterError, SchemaEntry, SchemaRegistry};
 use dial9_trace_format::types::FieldType;
 use std::alloc::{AllocError, Global};
-use std::process::Abort;
 use std::test::Fail;
 
 fn entry(alloc: Global, name: &str) -> Result<SchemaEntry, AllocError> {
@@ -31,35 +30,38 @@ fn next_id(registry: &mut SchemaRegistry) -> Option<u16> {
     Some(id.0)
 }
 
+/// The entry that an iterator gives has this id and this name.
+fn is_entry(given: Option<(WireTypeId, &SchemaEntry)>, id: u16, name: &str) -> bool {
+    match given {
+        Some((found, entry)) => found == WireTypeId(id) && entry.name() == name,
+        None => false,
+    }
+}
+
 /// The registry holds these names by these ids, in this order, and no others.
-fn check_entries(
-    rt: &impl Abort,
-    registry: &SchemaRegistry,
-    wanted: &[(u16, &str)],
-) -> Result<(), Fail> {
+fn has_entries(registry: &SchemaRegistry, wanted: &[(u16, &str)]) -> bool {
     let mut entries = registry.entries();
     for (id, name) in wanted {
-        let (type_id, entry) = entries.next().ok_or("no entry")?;
-        assert_eq!(rt; type_id, WireTypeId(*id));
-        assert_eq!(rt; entry.name(), *name);
+        if !is_entry(entries.next(), *id, *name) {
+            return false;
+        }
     }
-    assert!(rt; entries.next().is_none());
-    Ok(())
+    entries.next().is_none()
 }
 
 #[test]
 fn ids_are_handed_out_in_order(rt: HostRuntime) -> Result<(), Fail> {
     let mut registry = SchemaRegistry::new(rt.alloc());
-    assert_eq!(rt; next_id(&mut registry), Some(256));
-    assert_eq!(rt; next_id(&mut registry), Some(257));
+    assert!(rt; next_id(&mut registry) == Some(256));
+    assert!(rt; next_id(&mut registry) == Some(257));
     put(&mut registry, rt.alloc(), 9, "A")?;
     put(&mut registry, rt.alloc(), 3, "B")?;
-    check_entries(&rt, &registry, &[(3, "B"), (9, "A")])?;
+    assert!(rt; has_entries(&registry, &[(3, "B"), (9, "A")]));
     let conflict = Err(RegisterError::Conflict(WireTypeId(9)));
-    assert_eq!(rt; put(&mut registry, rt.alloc(), 9, "B"), conflict);
-    assert_eq!(rt; put(&mut registry, rt.alloc(), 9, "A"), Ok(()));
+    assert!(rt; put(&mut registry, rt.alloc(), 9, "B") == conflict);
+    assert!(rt; put(&mut registry, rt.alloc(), 9, "A") == Ok(()));
     registry.sync_next_id();
-    assert_eq!(rt; next_id(&mut registry), Some(256));
+    assert!(rt; next_id(&mut registry) == Some(256));
     Ok(())
 }
 
@@ -67,12 +69,12 @@ fn ids_are_handed_out_in_order(rt: HostRuntime) -> Result<(), Fail> {
 fn greatest_id_is_handed_out_last(rt: HostRuntime) {
     let mut registry = SchemaRegistry::new(rt.alloc());
     for id in 256..65_536u32 {
-        assert_eq!(rt; next_id(&mut registry), Some(id as u16));
+        assert!(rt; next_id(&mut registry) == Some(id as u16));
     }
-    assert_eq!(rt; next_id(&mut registry), None);
-    assert_eq!(rt; next_id(&mut registry), None);
+    assert!(rt; next_id(&mut registry) == None);
+    assert!(rt; next_id(&mut registry) == None);
     registry.clear();
-    assert_eq!(rt; next_id(&mut registry), Some(256));
+    assert!(rt; next_id(&mut registry) == Some(256));
 }
 
 #[test]
@@ -80,9 +82,10 @@ fn no_id_above_the_greatest(rt: HostRuntime) -> Result<(), Fail> {
     let mut registry = SchemaRegistry::new(rt.alloc());
     put(&mut registry, rt.alloc(), 65_535, "A")?;
     registry.sync_next_id();
-    assert_eq!(rt; next_id(&mut registry), None);
+    assert!(rt; next_id(&mut registry) == None);
     let mut again = registry.clone()?;
-    assert_eq!(rt; next_id(&mut again), None);
+    assert!(rt; next_id(&mut again) == None);
     assert!(rt; again.get(WireTypeId(256)).is_none());
-    check_entries(&rt, &again, &[(65_535, "A")])
+    assert!(rt; has_entries(&again, &[(65_535, "A")]));
+    Ok(())
 }

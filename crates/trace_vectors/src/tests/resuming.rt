@@ -1,8 +1,8 @@
 //! Encoders that go on after readers in turn and after writers that fail.
 
-use crate::tests::calls::{all, decoder_of, into_encoder, put_one};
-use crate::tests::checks::{check_all, check_bytes, check_number, check_place, check_refused};
-use crate::tests::mixed::{check_borrowed_to, check_event_to, check_owned_to, check_refused_to};
+use crate::tests::calls::{decoder_of, into_encoder, put_one};
+use crate::tests::checks::{check_bytes, check_number, check_refused, count_all, reads_all};
+use crate::tests::mixed::{gives_borrowed, gives_event, gives_owned, shows_refused};
 use crate::tests::told::{breaking, check_told, stepping};
 use crate::tests::traces::{ONE_EVENT, THREE_EVENTS, ev, one_field};
 use dial9_trace_format::decoder::Decoder;
@@ -17,18 +17,19 @@ use trace_samples::{Manner, Refusal, Told};
 use trace_values::leb128::Faults;
 
 /// A frame is read with owned values, one with borrowed values, one by an iterator, and one is shown to a sink, which refuses it.
-fn read_in_turn(rt: &impl Abort, decoder: &mut Decoder<'_>) -> Result<(), Fail> {
-    check_owned_to(rt, decoder, 18)?;
-    check_borrowed_to(rt, decoder, 25)?;
-    check_event_to(rt, decoder, 33);
-    check_refused_to(rt, decoder, 40);
-    Ok(())
+fn is_read_in_turn(decoder: &mut Decoder<'_>) -> Result<bool, Fail> {
+    Ok(
+        gives_owned(decoder, 18)?
+            && gives_borrowed(decoder, 25)?
+            && gives_event(decoder, 33)
+            && shows_refused(decoder, 40),
+    )
 }
 
 /// An encoder that goes on after those frames.
 fn encoder_after(rt: &impl Abort, alloc: Global) -> Result<Encoder, Fail> {
     let mut decoder = decoder_of(alloc, &THREE_EVENTS)?;
-    read_in_turn(rt, &mut decoder)?;
+    assert!(rt; is_read_in_turn(&mut decoder)?);
     Ok(into_encoder(alloc, decoder)?)
 }
 
@@ -67,12 +68,22 @@ fn torn(rt: &impl Abort, alloc: Global) -> Result<Told, EncodeError> {
     Ok(broken.into_inner())
 }
 
-/// An encoder that goes on after the schema of a torn trace, which its writer has already.
+/// A decoder that gave the schema of a torn trace, and no more.
+fn decoder_after_schema<'a>(
+    rt: &impl Abort,
+    alloc: Global,
+    bytes: &'a [u8],
+) -> Result<Decoder<'a>, Fail> {
+    let mut decoder = decoder_of(alloc, bytes)?;
+    assert!(rt; count_all(&mut decoder)? == 1);
+    assert!(rt; decoder.position() == 19);
+    Ok(decoder)
+}
+
+/// An encoder that goes on after that schema, which its writer has already.
 fn encoder_after_schema(rt: &impl Abort, alloc: Global, bytes: &[u8]) -> Result<Encoder, Fail> {
     let before = Vec::from_slice(alloc, &ONE_EVENT[..19])?;
-    let mut decoder = decoder_of(alloc, bytes)?;
-    assert_eq!(rt; all(&mut decoder)?.len(), 1);
-    check_place(rt, &decoder, 19);
+    let decoder = decoder_after_schema(rt, alloc, bytes)?;
     Ok(decoder.into_encoder(before)?)
 }
 
@@ -88,11 +99,11 @@ fn mended(rt: &impl Abort, alloc: Global, bytes: &[u8]) -> Result<Vec<u8>, Fail>
 #[test]
 fn goes_on_after_a_torn_trace(rt: HostRuntime) -> Result<(), Fail> {
     let torn = torn(&rt, rt.alloc())?;
-    assert_eq!(rt; torn.bytes().len(), 22);
+    assert!(rt; torn.bytes().len() == 22);
     let whole = mended(&rt, rt.alloc(), torn.bytes())?;
-    check_all(&rt, rt.alloc(), &whole, 2, 26)?;
+    assert!(rt; reads_all(rt.alloc(), &whole, 2, 26)?);
     let sent = [0x02, 0x00, 0x01, 0xD0, 0x07, 0x00, 0x02];
-    assert_eq!(rt; whole.get(19..), Some(sent.as_slice()));
+    assert!(rt; whole.get(19..) == Some(sent.as_slice()));
     Ok(())
 }
 
@@ -156,12 +167,17 @@ fn put_byte(rt: &impl Abort, raw: &mut RawEncoder<Told>) -> Result<(), EncodeErr
     raw.flush()
 }
 
+/// How many bytes are sent by that event and one byte more.
+fn count_sent(rt: &impl Abort, encoder: Encoder<Told>) -> Result<usize, EncodeError> {
+    let mut raw = encoder.into_raw_encoder();
+    put_byte(rt, &mut raw)?;
+    Ok(raw.into_inner().bytes().len())
+}
+
 #[test]
 fn a_new_writer_that_fails_changes_nothing(rt: HostRuntime) -> Result<(), Fail> {
     let mut encoder = encoder_to(rt.alloc(), stepping(1_024))?;
     check_not_reset(&rt, rt.alloc(), &mut encoder)?;
-    let mut raw = encoder.into_raw_encoder();
-    put_byte(&rt, &mut raw)?;
-    assert_eq!(rt; raw.into_inner().bytes().len(), 27);
+    assert!(rt; count_sent(&rt, encoder)? == 27);
     Ok(())
 }

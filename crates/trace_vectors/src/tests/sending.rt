@@ -37,7 +37,7 @@ fn all(rt: &impl Abort, told: &mut Told, bytes: &[u8]) -> Result<(), EncodeError
     match send_all(told, bytes) {
         Ok(()) => Ok(()),
         Err(stop) => {
-            assert_eq!(rt; before.checked_add(stop.accepted), Some(told.bytes().len()));
+            assert!(rt; before.checked_add(stop.accepted) == Some(told.bytes().len()));
             Err(EncodeError::Writer(stop.kind))
         }
     }
@@ -63,7 +63,7 @@ fn check_stopped(rt: &impl Abort, alloc: Global, work: Work, manner: Manner) -> 
     let mut told = Told::new(manner);
     let kind = kind_of(manner);
     let answer = make(rt, alloc, &mut told, work);
-    assert_eq!(rt; answer, Err(EncodeError::Writer(kind)));
+    assert!(rt; answer == Err(EncodeError::Writer(kind)));
     let sent = bytes_of(work).get(..manner.place).unwrap_or(&[]);
     check_told(rt, &told, sent, Faults::OneFault(kind), sent.is_empty());
     told
@@ -73,7 +73,7 @@ fn check_stopped(rt: &impl Abort, alloc: Global, work: Work, manner: Manner) -> 
 fn check_stopped_again(rt: &impl Abort, alloc: Global, work: Work, manner: Manner) {
     let mut told = check_stopped(rt, alloc, work, manner);
     let answer = make(rt, alloc, &mut told, work);
-    assert_eq!(rt; answer, Err(EncodeError::Writer(kind_of(manner))));
+    assert!(rt; answer == Err(EncodeError::Writer(kind_of(manner))));
     let sent = bytes_of(work).get(..manner.place).unwrap_or(&[]);
     check_told(rt, &told, sent, Faults::MoreFaults, sent.is_empty());
 }
@@ -82,14 +82,14 @@ fn check_stopped_again(rt: &impl Abort, alloc: Global, work: Work, manner: Manne
 fn check_sent_again(rt: &impl Abort, alloc: Global, work: Work, manner: Manner) {
     let mut told = check_stopped(rt, alloc, work, once(manner));
     let answer = make(rt, alloc, &mut told, work);
-    assert_eq!(rt; answer, Ok(()));
+    assert!(rt; answer == Ok(()));
     let (front, again) = told
         .bytes()
         .split_at_checked(manner.place)
         .unwrap_or((&[], &[]));
-    assert_eq!(rt; Some(front), bytes_of(work).get(..manner.place));
-    assert_eq!(rt; again, bytes_of(work));
-    assert_eq!(rt; told.faults(), Faults::OneFault(kind_of(manner)));
+    assert!(rt; Some(front) == bytes_of(work).get(..manner.place));
+    assert!(rt; again == bytes_of(work));
+    assert!(rt; told.faults() == Faults::OneFault(kind_of(manner)));
     assert!(rt; !told.is_settled());
 }
 
@@ -115,7 +115,7 @@ fn sending_stops_where_the_writer_fails(rt: HostRuntime) {
 /// The call over a writer that does not fail, or would fail to settle: all is sent, and nothing settled.
 fn check_whole(rt: &impl Abort, alloc: Global, work: Work, manner: Manner) {
     let mut told = Told::new(manner);
-    assert_eq!(rt; make(rt, alloc, &mut told, work), Ok(()));
+    assert!(rt; make(rt, alloc, &mut told, work) == Ok(()));
     check_told(rt, &told, bytes_of(work), Faults::NoFault, false);
 }
 

@@ -1,13 +1,12 @@
 //! What readers do that show each event to a sink.
 
 use crate::tests::calls::decoder_of;
-use crate::tests::checks::check_place;
 use crate::tests::traces::THREE_EVENTS;
 use dial9_trace_format::decoder::{
     DecodeError, DecodeErrorKind, Decoder, EventSink, EventVisitor, RawEvent, TryForEachError,
 };
 use dial9_trace_format::types::FieldValueRef;
-use std::process::Abort;
+use std::alloc::Global;
 use std::test::Fail;
 
 /// Counts events, and adds their times.
@@ -27,29 +26,37 @@ impl<'a> EventVisitor<'a> for Seen {
 }
 
 /// The fault is this one, at this place.
-pub fn check_fault(rt: &impl Abort, fault: &DecodeError, kind: &DecodeErrorKind, place: usize) {
-    assert!(rt; fault.kind == *kind);
-    assert_eq!(rt; fault.pos, place);
+pub fn is_fault(fault: &DecodeError, kind: &DecodeErrorKind, place: usize) -> bool {
+    fault.kind == *kind && fault.pos == place
 }
 
-/// A visitor is shown so many events, whose times are so much together, and then this fault comes at this place.
-pub fn check_shown(
-    rt: &impl Abort,
+/// A visitor is shown events, and then this fault comes at this place.
+fn is_told<'a>(
+    decoder: &mut Decoder<'a>,
+    visitor: &mut Seen,
+    kind: &DecodeErrorKind,
+    place: usize,
+) -> bool {
+    match decoder.for_each_event(visitor) {
+        Ok(()) => false,
+        Err(fault) => is_fault(&fault, kind, place),
+    }
+}
+
+/// A visitor is shown so many events, whose times are so much together, and then this fault comes at this place, where the decoder stays.
+pub fn is_shown(
     decoder: &mut Decoder<'_>,
     seen: (u64, u64),
     kind: &DecodeErrorKind,
     place: usize,
-) {
+) -> bool {
     let mut visitor = Seen {
         events: 0,
         times: 0,
     };
-    match decoder.for_each_event(&mut visitor) {
-        Ok(()) => assert!(rt; false, "no fault"),
-        Err(fault) => check_fault(rt, &fault, kind, place),
-    }
-    assert_eq!(rt; visitor.events, seen.0);
-    assert_eq!(rt; visitor.times, seen.1);
+    let is_told = is_told(decoder, &mut visitor, kind, place);
+    let is_placed = Decoder::position(decoder) == place;
+    is_told && is_placed && (visitor.events, visitor.times) == seen
 }
 
 /// The one event, and the front of a second header.
@@ -62,8 +69,7 @@ const CUT_HEADER: [u8; 30] = [
 fn second_header_cut(rt: HostRuntime) -> Result<(), Fail> {
     let mut decoder = decoder_of(rt.alloc(), &CUT_HEADER)?;
     let no_frame = DecodeErrorKind::NoFrame(0x54);
-    check_shown(&rt, &mut decoder, (1, 1_000), &no_frame, 26);
-    check_place(&rt, &decoder, 26);
+    assert!(rt; is_shown(&mut decoder, (1, 1_000), &no_frame, 26));
     Ok(())
 }
 
@@ -96,32 +102,35 @@ impl<'a> EventSink<'a, Unwanted> for Adding {
     }
 }
 
-/// The sink refuses an event.
-pub fn check_unwanted(rt: &impl Abort, decoder: &mut Decoder<'_>, sink: &mut Adding) {
+/// The sink refuses an event, which ends here.
+pub fn is_refused(decoder: &mut Decoder<'_>, sink: &mut Adding, place: usize) -> bool {
     let refused: Result<(), TryForEachError<Unwanted>> = decoder.try_for_each_event(sink);
-    assert!(rt; matches!(refused, Err(TryForEachError::User(Unwanted))));
+    let is_unwanted = matches!(refused, Err(TryForEachError::User(Unwanted)));
+    is_unwanted && Decoder::position(decoder) == place
 }
 
 /// A sink takes the events that are left, whose numbers are so much together.
-fn check_rest(rt: &impl Abort, decoder: &mut Decoder<'_>, total: u64) {
+fn takes_rest(decoder: &mut Decoder<'_>, total: u64) -> bool {
     let mut rest = Adding { left: 3, total: 0 };
     let taken: Result<(), TryForEachError<Unwanted>> = decoder.try_for_each_event(&mut rest);
-    assert!(rt; taken.is_ok());
-    assert_eq!(rt; rest.total, total);
+    taken.is_ok() && rest.total == total
 }
 
 /// How many events a sink takes before it refuses one, where that one ends, and the numbers of those after it.
 const REFUSALS: [(u8, usize, u64); 3] = [(0, 25, 7), (1, 33, 0), (2, 40, 0)];
 
+/// A sink takes so many events of three and refuses one, which ends here, and another takes those after it.
+fn are_taken(alloc: Global, left: u8, place: usize, others: u64) -> Result<bool, Fail> {
+    let mut sink = Adding { left, total: 0 };
+    let mut decoder = decoder_of(alloc, &THREE_EVENTS)?;
+    let is_refused = is_refused(&mut decoder, &mut sink, place);
+    Ok(is_refused && takes_rest(&mut decoder, others) && decoder.position() == 40)
+}
+
 #[test]
 fn refusals(rt: HostRuntime) -> Result<(), Fail> {
     for (left, place, others) in REFUSALS {
-        let mut sink = Adding { left, total: 0 };
-        let mut decoder = decoder_of(rt.alloc(), &THREE_EVENTS)?;
-        check_unwanted(&rt, &mut decoder, &mut sink);
-        check_place(&rt, &decoder, place);
-        check_rest(&rt, &mut decoder, others);
-        check_place(&rt, &decoder, 40);
+        assert!(rt; are_taken(rt.alloc(), left, place, others)?);
     }
     Ok(())
 }

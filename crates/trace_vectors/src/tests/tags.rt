@@ -1,8 +1,6 @@
 //! The tags of the types, and the bit of the optional ones.
 
 use dial9_trace_format::types::FieldType;
-use std::process::Abort;
-use std::test::Fail;
 
 /// The plain types with their tags, and the tags of their optional types (docs/FORMAT.md, "Field types").
 const TAGS: [(FieldType, u8, u8); 15] = [
@@ -23,39 +21,43 @@ const TAGS: [(FieldType, u8, u8); 15] = [
     (FieldType::DynamicMap, 0x0F, 0x8F),
 ];
 
-/// The optional type of this one has the tag with the bit.
-fn check_optional(rt: &impl Abort, field_type: FieldType, plain: u8, optional: u8) {
-    assert_eq!(rt; field_type.tag(), plain);
-    assert_eq!(rt; field_type.optional().tag(), optional);
-    assert_eq!(rt; plain | FieldType::OPTIONAL_BIT, optional);
-    assert_eq!(rt; optional & FieldType::OPTIONAL_BIT, FieldType::OPTIONAL_BIT);
-    assert_eq!(rt; plain & FieldType::OPTIONAL_BIT, 0);
+/// The type has this tag, and its optional type the tag with the bit.
+fn is_tagged(field_type: FieldType, plain: u8, optional: u8) -> bool {
+    field_type.tag() == plain
+        && field_type.optional().tag() == optional
+        && optional == plain.saturating_add(0x80)
+        && plain | FieldType::OPTIONAL_BIT == optional
+        && plain & FieldType::OPTIONAL_BIT == 0
+}
+
+/// The type of the optional tag is the optional type, within which the type stands.
+fn is_read(field_type: FieldType, optional: u8) -> bool {
+    match FieldType::from_tag(optional) {
+        Some(read) => read == field_type.optional() && read.inner() == field_type,
+        None => false,
+    }
 }
 
 /// The tag names no type but those of the table.
-fn check_tag(rt: &impl Abort, tag: u8) {
+fn is_told(tag: u8) -> bool {
     match FieldType::from_tag(tag) {
-        None => assert!(rt; tag == 0 || (15 < tag && tag < 0x81) || 0x8F < tag),
+        None => tag == 0 || (15 < tag && tag < 0x81) || 0x8F < tag,
         Some(field_type) => {
-            assert_eq!(rt; field_type.tag(), tag);
-            assert_eq!(rt; field_type.is_optional(), tag >= FieldType::OPTIONAL_BIT);
-            assert_eq!(rt; field_type.inner().tag(), tag % 0x80);
-            assert_eq!(rt; field_type.optional().tag(), tag % 0x80 + 0x80);
+            field_type.tag() == tag
+                && field_type.is_optional() == (tag >= 0x80)
+                && field_type.inner().tag() == tag % 0x80
+                && field_type.optional().tag() == tag % 0x80 + 0x80
         }
     }
 }
 
 #[test]
-fn all_tags(rt: HostRuntime) -> Result<(), Fail> {
-    assert_eq!(rt; FieldType::OPTIONAL_BIT, 0x80);
+fn all_tags(rt: HostRuntime) {
     for tag in 0..=255u8 {
-        check_tag(&rt, tag);
+        assert!(rt; is_told(tag), "at {tag}");
     }
     for (field_type, plain, optional) in TAGS {
-        check_optional(&rt, field_type, plain, optional);
-        let read = FieldType::from_tag(optional).ok_or("no type")?;
-        assert_eq!(rt; read, field_type.optional());
-        assert_eq!(rt; read.inner(), field_type);
+        assert!(rt; is_tagged(field_type, plain, optional), "at {plain}");
+        assert!(rt; is_read(field_type, optional), "at {plain}");
     }
-    Ok(())
 }

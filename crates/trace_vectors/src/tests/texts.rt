@@ -72,10 +72,10 @@ const REGISTERING: [(RegisterError, &str); 2] = [
 #[test]
 fn faults_of_encoding_and_registering(rt: HostRuntime) -> Result<(), Fail> {
     for (fault, text) in ENCODING {
-        assert_eq!(rt; format!(in rt.alloc(); "{fault}")?.as_str(), text);
+        assert!(rt; format!(in rt.alloc(); "{fault}")?.as_str() == text);
     }
     for (fault, text) in REGISTERING {
-        assert_eq!(rt; format!(in rt.alloc(); "{fault}")?.as_str(), text);
+        assert!(rt; format!(in rt.alloc(); "{fault}")?.as_str() == text);
     }
     Ok(())
 }
@@ -98,10 +98,10 @@ const SHOWING: [(TryForEachError<EncodeError>, &str); 2] = [
 #[test]
 fn faults_of_decoding_and_showing(rt: HostRuntime) -> Result<(), Fail> {
     for (kind, text) in DECODING {
-        assert_eq!(rt; format!(in rt.alloc(); "{kind}")?.as_str(), text);
+        assert!(rt; format!(in rt.alloc(); "{kind}")?.as_str() == text);
     }
     for (error, text) in SHOWING {
-        assert_eq!(rt; format!(in rt.alloc(); "{error}")?.as_str(), text);
+        assert!(rt; format!(in rt.alloc(); "{error}")?.as_str() == text);
     }
     Ok(())
 }
@@ -124,7 +124,7 @@ fn faults_of_resolving(rt: HostRuntime) -> Result<(), Fail> {
         (DeserError::OutOfMemory, "out of memory"),
     ];
     for (fault, text) in cases {
-        assert_eq!(rt; format!(in rt.alloc(); "{fault}")?.as_str(), text);
+        assert!(rt; format!(in rt.alloc(); "{fault}")?.as_str() == text);
     }
     Ok(())
 }

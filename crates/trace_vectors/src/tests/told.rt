@@ -55,8 +55,11 @@ pub fn kind_of(manner: Manner) -> ErrorKind {
 }
 
 /// The writer tells these bytes, these faults, and whether it is settled.
+pub fn tells(told: &Told, bytes: &[u8], faults: Faults, settled: bool) -> bool {
+    told.bytes() == bytes && told.faults() == faults && told.is_settled() == settled
+}
+
+/// The writer tells so.
 pub fn check_told(rt: &impl Abort, told: &Told, bytes: &[u8], faults: Faults, settled: bool) {
-    assert_eq!(rt; told.bytes(), bytes);
-    assert_eq!(rt; told.faults(), faults);
-    assert_eq!(rt; told.is_settled(), settled);
+    assert!(rt; tells(told, bytes, faults, settled));
 }

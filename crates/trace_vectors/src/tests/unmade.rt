@@ -1,7 +1,7 @@
 //! Events of a type that is known: no schema is made for them.
 
 use crate::tests::calls::{fresh, put};
-use crate::tests::checks::{check_number, check_refused};
+use dial9_trace_format::encoder::Encoder;
 use dial9_trace_format::leb128::EncodeError;
 use dial9_trace_format::schema::{FieldDef, SchemaEntry};
 use dial9_trace_format::types::EventEncoder;
@@ -55,6 +55,20 @@ impl<T: TraceEvent + Drop> TraceEvent for Unmade<T> {
     }
 }
 
+/// The event is refused, and nothing is written.
+fn is_refused<T: TraceEvent>(encoder: &mut Encoder, unmade: &T) -> bool {
+    let refused = put(encoder, unmade).err();
+    refused == Some(EncodeError::OutOfMemory) && Encoder::bytes_written(encoder) == 5
+}
+
+/// How many bytes two such events have.
+fn count_of_two<T: TraceEvent>(encoder: &mut Encoder, unmade: &T) -> Result<u64, EncodeError> {
+    let before = Encoder::bytes_written(encoder);
+    put(encoder, unmade)?;
+    put(encoder, unmade)?;
+    Ok(Encoder::bytes_written(encoder).saturating_sub(before))
+}
+
 /// Before the type is known the event is refused, and nothing is written; after it two such events are written.
 fn check_known<T: TraceEvent + Drop>(
     rt: &impl Abort,
@@ -63,24 +77,16 @@ fn check_known<T: TraceEvent + Drop>(
     length: u64,
 ) -> Result<(), Fail> {
     let mut encoder = fresh(alloc)?;
-    check_refused(
-        rt,
-        put(&mut encoder, unmade).err(),
-        EncodeError::OutOfMemory,
-    );
-    check_number(rt, encoder.bytes_written(), 5);
+    assert!(rt; is_refused(&mut encoder, unmade));
     put(&mut encoder, &unmade.0)?;
-    let before = encoder.bytes_written();
-    put(&mut encoder, unmade)?;
-    put(&mut encoder, unmade)?;
-    check_number(rt, encoder.bytes_written().saturating_sub(before), length);
+    assert!(rt; count_of_two(&mut encoder, unmade)? == length);
     Ok(())
 }
 
 /// Two types of a slot, and two of a name.
 #[test]
 fn no_schema_of_a_known_type(rt: HostRuntime) -> Result<(), Fail> {
-    assert_eq!(rt; STATIC_WIRE_ID_LIMIT, 256);
+    assert!(rt; STATIC_WIRE_ID_LIMIT == 256);
     let fast = Unmade(FastSlot { time: 1 });
     check_known(&rt, rt.alloc(), &fast, 12)?;
     let load = Unmade(Annotated { time: 1, load: 2 });

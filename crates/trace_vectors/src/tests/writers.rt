@@ -1,6 +1,6 @@
 //! Encoders over a writer that fails: what was answered, and what the writer tells of it.
 
-use crate::tests::told::{KINDS, breaking, check_told, kind_of, once, stepping, unsettling};
+use crate::tests::told::{KINDS, breaking, kind_of, once, stepping, tells, unsettling};
 use crate::tests::traces::{ONE_EVENT, ev, one_definition};
 use dial9_trace_format::codec::{PoolEntry, StackPoolEntry};
 use dial9_trace_format::encoder::Encoder;
@@ -124,10 +124,18 @@ fn make(alloc: Global, encoder: &mut Encoder<Told>, work: Work) -> Result<(), En
     }
 }
 
-/// The writer took these bytes, failed so far, and settled nothing.
-fn check_sent(rt: &impl Abort, encoder: &Encoder<Told>, bytes: &[u8], faults: Faults) {
-    assert_eq!(rt; encoder.bytes_written(), bytes.len() as u64);
-    check_told(rt, encoder.as_inner(), bytes, faults, false);
+/// The encoder answers that it failed; its writer took these bytes, tells one fault, and settled nothing.
+fn is_failed(
+    alloc: Global,
+    encoder: &mut Encoder<Told>,
+    work: Work,
+    sent: &[u8],
+    kind: ErrorKind,
+) -> bool {
+    let is_refused = make(alloc, encoder, work) == Err(EncodeError::Failed);
+    let is_counted = Encoder::bytes_written(encoder) == sent.len() as u64;
+    let faults = Faults::OneFault(kind);
+    is_refused && is_counted && tells(encoder.as_inner(), sent, faults, false)
 }
 
 /// The encoder has failed: each call says so, and sends nothing.
@@ -139,9 +147,7 @@ fn check_failed(
     kind: ErrorKind,
 ) {
     for work in EACH {
-        let answer = make(alloc, encoder, work);
-        assert_eq!(rt; answer, Err(EncodeError::Failed));
-        check_sent(rt, encoder, sent, Faults::OneFault(kind));
+        assert!(rt; is_failed(alloc, encoder, work, sent, kind));
     }
 }
 
@@ -155,7 +161,7 @@ fn check_stopped(
 ) {
     let kind = kind_of(manner);
     let answer = make(alloc, encoder, work);
-    assert_eq!(rt; answer, Err(EncodeError::Writer(kind)));
+    assert!(rt; answer == Err(EncodeError::Writer(kind)));
     let sent = trace_of(work).get(..manner.place).unwrap_or(&[]);
     check_failed(rt, alloc, encoder, sent, kind);
 }
@@ -165,7 +171,7 @@ fn check_work(rt: &impl Abort, alloc: Global, work: Work, manner: Manner) {
     match Encoder::new_to(alloc, Told::new(manner)) {
         Err(fault) => {
             assert!(rt; manner.place < 5);
-            assert_eq!(rt; fault, EncodeError::Writer(kind_of(manner)));
+            assert!(rt; fault == EncodeError::Writer(kind_of(manner)));
         }
         Ok(mut encoder) => {
             assert!(rt; manner.place >= 5);
@@ -194,6 +200,28 @@ fn each_call_stops_where_the_writer_fails(rt: HostRuntime) {
     }
 }
 
+/// All of the call is sent, and nothing settled.
+fn is_sent_whole(
+    alloc: Global,
+    encoder: &mut Encoder<Told>,
+    work: Work,
+) -> Result<bool, EncodeError> {
+    make(alloc, encoder, work)?;
+    let bytes = trace_of(work);
+    let is_counted = Encoder::bytes_written(encoder) == bytes.len() as u64;
+    Ok(is_counted && tells(encoder.as_inner(), bytes, Faults::NoFault, false))
+}
+
+/// The same call, where all is known, meets no fault.
+fn is_made_again(
+    alloc: Global,
+    encoder: &mut Encoder<Told>,
+    work: Work,
+) -> Result<bool, EncodeError> {
+    make(alloc, encoder, work)?;
+    Ok(encoder.as_inner().faults() == Faults::NoFault)
+}
+
 /// The call over a writer that does not fail, or would fail to settle: all is sent, and nothing settled, nor where all is known.
 fn check_whole(
     rt: &impl Abort,
@@ -202,10 +230,8 @@ fn check_whole(
     manner: Manner,
 ) -> Result<(), EncodeError> {
     let mut encoder = Encoder::new_to(alloc, Told::new(manner))?;
-    make(alloc, &mut encoder, work)?;
-    check_sent(rt, &encoder, trace_of(work), Faults::NoFault);
-    make(alloc, &mut encoder, work)?;
-    assert_eq!(rt; encoder.as_inner().faults(), Faults::NoFault);
+    assert!(rt; is_sent_whole(alloc, &mut encoder, work)?);
+    assert!(rt; is_made_again(alloc, &mut encoder, work)?);
     Ok(())
 }
 

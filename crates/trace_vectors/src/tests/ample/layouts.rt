@@ -1,8 +1,6 @@
 //! Layouts of fields of each count: of fixed width, of open width, and both in turn.
 
 use crate::tests::ample::COUNTS;
-use crate::tests::ample::events::{event_of, repeated};
-use crate::tests::ample::traces::check_read;
 use dial9_trace_format::codec::compile;
 use dial9_trace_format::schema::FieldDef;
 use dial9_trace_format::types::FieldType;
@@ -26,7 +24,7 @@ fn fields_in_turn(
     Ok(fields)
 }
 
-/// Fields of these types in turn have so many steps, and a schema of them is registered, read and dumped, with an event.
+/// Fields of these types in turn have so many steps.
 fn check_layout(
     rt: &impl Abort,
     alloc: Global,
@@ -36,10 +34,8 @@ fn check_layout(
 ) -> Result<(), Fail> {
     let fields = fields_in_turn(alloc, count, types.0, types.1)?;
     let layout = compile(alloc, &fields)?;
-    assert_eq!(rt; layout.steps().len(), steps);
-    let values = repeated(alloc, count, Some(7))?;
-    let bytes = event_of(alloc, fields, &values)?;
-    check_read(rt, alloc, &bytes, 2)
+    assert!(rt; layout.steps().len() == steps);
+    Ok(())
 }
 
 #[test]

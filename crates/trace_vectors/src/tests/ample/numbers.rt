@@ -1,13 +1,13 @@
 //! Values that have no size, and the absent value.
 
 use crate::tests::calls::encoded;
-use crate::tests::read_values::check_read;
+use crate::tests::read_values::{check_read, is_copied};
 use dial9_trace_format::leb128::{EncodeError, encode_unsigned};
 use dial9_trace_format::types::{
     EventEncoder, F64Bits, FieldType, FieldValue, FieldValueRef, InternedStackFrames,
     InternedString, TraceField,
 };
-use std::alloc::Global;
+use std::alloc::{AllocError, Global};
 use std::process::Abort;
 use std::test::Fail;
 use trace_values::leb128::push_number;
@@ -45,10 +45,19 @@ pub fn field(
 }
 
 /// The value is copied, and written by its own kind.
-fn check_own(rt: &impl Abort, alloc: Global, value: &FieldValue) -> Result<(), Fail> {
-    assert!(rt; value.clone(alloc)? == *value);
-    assert!(rt; !encoded(alloc, value)?.is_empty());
-    Ok(())
+fn is_written(alloc: Global, value: &FieldValue) -> Result<bool, Fail> {
+    Ok(is_copied(alloc, value)? && !encoded(alloc, value)?.is_empty())
+}
+
+/// The field of the optional type has these bytes after one of presence.
+fn is_optional(
+    alloc: Global,
+    field_type: FieldType,
+    value: &FieldValue,
+    bytes: &[u8],
+) -> Result<bool, EncodeError> {
+    let optional = field(alloc, field_type.optional(), value)?;
+    Ok(optional.as_slice().get(1..) == Some(bytes))
 }
 
 /// The value as a field, and read back.
@@ -60,38 +69,44 @@ fn check_field(
     length: usize,
 ) -> Result<(), Fail> {
     let bytes = field(alloc, field_type, value)?;
-    assert_eq!(rt; bytes.len(), length);
-    check_read(rt, alloc, field_type, &bytes, value)?;
-    let optional = field(alloc, field_type.optional(), value)?;
-    assert_eq!(rt; optional.as_slice().get(1..), Some(bytes.as_slice()));
-    Ok(())
+    assert!(rt; bytes.len() == length);
+    assert!(rt; is_optional(alloc, field_type, value, &bytes)?);
+    check_read(rt, alloc, field_type, &bytes, value)
 }
 
-/// An absent value is copied, and one that is borrowed is owned.
-fn check_absent(rt: &impl Abort, alloc: Global) -> Result<(), Fail> {
-    check_own(rt, alloc, &FieldValue::None)?;
-    assert!(rt; FieldValueRef::None.to_owned(alloc)? == FieldValue::None);
-    assert!(rt; FieldValueRef::None.clone(alloc)? == FieldValueRef::None);
-    Ok(())
+/// A borrowed absent value is copied, and owned.
+fn is_none_copied(alloc: Global) -> Result<bool, AllocError> {
+    let is_owned = FieldValueRef::None.to_owned(alloc)? == FieldValue::None;
+    Ok(is_owned && FieldValueRef::None.clone(alloc)? == FieldValueRef::None)
+}
+
+/// An absent field of this type is one byte.
+fn is_absent(alloc: Global, field_type: FieldType) -> Result<bool, EncodeError> {
+    Ok(field(alloc, field_type, &FieldValue::None)?.as_slice() == [0].as_slice())
 }
 
 #[test]
 fn fields_without_a_size(rt: HostRuntime) -> Result<(), Fail> {
     for (field_type, value, length) in each_kind() {
-        check_own(&rt, rt.alloc(), &value)?;
+        assert!(rt; is_written(rt.alloc(), &value)?);
         check_field(&rt, rt.alloc(), field_type, &value, length)?;
     }
-    check_absent(&rt, rt.alloc())?;
+    Ok(())
+}
+
+#[test]
+fn absent_fields(rt: HostRuntime) -> Result<(), Fail> {
+    assert!(rt; is_written(rt.alloc(), &FieldValue::None)?);
+    assert!(rt; is_none_copied(rt.alloc())?);
     for tag in 0x81..=0x8Fu8 {
         let field_type = FieldType::from_tag(tag).ok_or("no type")?;
-        let absent = field(rt.alloc(), field_type, &FieldValue::None)?;
-        assert_eq!(rt; absent.as_slice(), [0].as_slice());
+        assert!(rt; is_absent(rt.alloc(), field_type)?);
     }
     Ok(())
 }
 
 /// An absent field of each type that has an own call.
-fn absent_fields(alloc: Global) -> Result<Vec<u8>, EncodeError> {
+fn none_of_each(alloc: Global) -> Result<Vec<u8>, EncodeError> {
     let mut out = Vec::new(alloc);
     let mut encoder = EventEncoder::new(&mut out);
     None::<u8>.encode(&mut encoder)?;
@@ -106,7 +121,14 @@ fn absent_fields(alloc: Global) -> Result<Vec<u8>, EncodeError> {
 #[test]
 fn absent_fields_of_rust_types(rt: HostRuntime) -> Result<(), Fail> {
     let wanted = [0, 0, 0, 0, 0, 1, 1, 0, 0, 0, 0, 0, 0, 0];
-    assert_eq!(rt; absent_fields(rt.alloc())?.as_slice(), wanted.as_slice());
+    assert!(rt; none_of_each(rt.alloc())?.as_slice() == wanted.as_slice());
+    Ok(())
+}
+
+/// The number is sent and pushed by the same bytes, after as many.
+fn push_both(sent: &mut Vec<u8>, pushed: &mut Vec<u8>, number: u64) -> Result<(), EncodeError> {
+    encode_unsigned(number, sent)?;
+    push_number(pushed, number)?;
     Ok(())
 }
 
@@ -115,10 +137,9 @@ fn numbers_of_each_length(rt: HostRuntime) -> Result<(), Fail> {
     let mut sent = Vec::new(rt.alloc());
     let mut pushed = Vec::new(rt.alloc());
     for bits in 0..64u32 {
-        encode_unsigned(1 << bits, &mut sent)?;
-        push_number(&mut pushed, 1 << bits)?;
+        push_both(&mut sent, &mut pushed, 1 << bits)?;
     }
-    assert_eq!(rt; sent.len(), 325);
-    assert_eq!(rt; pushed.as_slice(), sent.as_slice());
+    assert!(rt; sent.len() == 325);
+    assert!(rt; pushed.as_slice() == sent.as_slice());
     Ok(())
 }

@@ -35,39 +35,39 @@ fn annotations(alloc: Global, count: usize) -> Result<Vec<FieldAnnotation>, Allo
     Ok(annotations)
 }
 
-/// A field and its copy have a name of this size.
-fn check_field(rt: &impl Abort, alloc: Global, name: &str) -> Result<(), Fail> {
+/// A field has this name, and its copy is equal to it.
+fn is_field_copied(alloc: Global, name: &str) -> Result<bool, AllocError> {
     let field = FieldDef::new(alloc, name, FieldType::U8)?;
-    assert_eq!(rt; field.name().len(), name.len());
-    assert!(rt; field.clone(alloc)? == field);
-    Ok(())
+    Ok(field.name() == name && field.clone(alloc)? == field)
 }
 
-/// An annotation and its copy have a key and a value of this size.
-fn check_annotation(rt: &impl Abort, alloc: Global, key: &str) -> Result<(), Fail> {
+/// An annotation has this key and this value, and its copy is equal to it.
+fn is_annotation_copied(alloc: Global, key: &str) -> Result<bool, AllocError> {
     let annotation = FieldAnnotation::new(alloc, 1, key, key)?;
-    assert_eq!(rt; annotation.key().len(), key.len());
-    assert_eq!(rt; annotation.value().len(), key.len());
-    assert!(rt; annotation.clone(alloc)? == annotation);
-    Ok(())
+    let is_copied = annotation.clone(alloc)? == annotation;
+    Ok(is_copied && annotation.key() == key && annotation.value() == key)
 }
 
-/// An entry without fields, and its copy, have a name of this size.
-fn check_name(rt: &impl Abort, alloc: Global, name: &str) -> Result<(), Fail> {
+/// An entry without fields has this name, and its copy is equal to it.
+fn is_entry_copied(alloc: Global, name: &str) -> Result<bool, AllocError> {
     let entry = SchemaEntry::new(alloc, name, &[])?;
-    assert_eq!(rt; entry.name().len(), name.len());
-    assert!(rt; entry.clone(alloc)? == entry);
+    Ok(entry.name() == name && entry.clone(alloc)? == entry)
+}
+
+/// The copy of a schema without fields has its name.
+fn is_schema_copied(alloc: Global, name: &str) -> Result<bool, AllocError> {
     let schema = Schema::new(alloc, name, Vec::new(alloc))?;
-    assert_eq!(rt; schema.clone()?.name().len(), name.len());
-    Ok(())
+    Ok(schema.clone()?.name() == name)
 }
 
 /// Fields, annotations, entries and schemas have names of this size.
 fn check_names(rt: &impl Abort, alloc: Global, size: usize) -> Result<(), Fail> {
     let name = text(alloc, size)?;
-    check_field(rt, alloc, name.as_str())?;
-    check_annotation(rt, alloc, name.as_str())?;
-    check_name(rt, alloc, name.as_str())
+    assert!(rt; is_field_copied(alloc, name.as_str())?);
+    assert!(rt; is_annotation_copied(alloc, name.as_str())?);
+    assert!(rt; is_entry_copied(alloc, name.as_str())?);
+    assert!(rt; is_schema_copied(alloc, name.as_str())?);
+    Ok(())
 }
 
 #[test]
@@ -85,48 +85,61 @@ fn entry(alloc: Global, count: usize, notes: usize) -> Result<SchemaEntry, Alloc
     SchemaEntry::with_annotations(alloc, "S", &fields, &annotations)
 }
 
-/// The entry has so many fields and annotations, and its copy equals it.
-fn check_copy(
-    rt: &impl Abort,
-    alloc: Global,
-    entry: &SchemaEntry,
-    count: usize,
-    notes: usize,
-) -> Result<SchemaEntry, Fail> {
-    assert_eq!(rt; entry.fields().len(), count);
-    assert_eq!(rt; entry.annotations().len(), notes);
-    let copy = entry.clone(alloc)?;
-    assert!(rt; copy == *entry);
-    Ok(copy)
+/// The copy of the entry is equal to it.
+fn is_copied(alloc: Global, entry: &SchemaEntry) -> Result<bool, AllocError> {
+    Ok(entry.clone(alloc)? == *entry)
+}
+
+/// So many annotations are appended to an entry with as many, which then has twice as many.
+fn are_appended(alloc: Global, notes: usize) -> Result<bool, AllocError> {
+    let annotations = annotations(alloc, notes)?;
+    let mut entry = entry(alloc, 0, notes)?;
+    entry.push_annotation_copies(alloc, &annotations)?;
+    Ok(entry.annotations().len() == notes.saturating_mul(2))
+}
+
+/// The schema of the entry has so many fields.
+fn has_fields(alloc: Global, entry: SchemaEntry, count: usize) -> Result<bool, AllocError> {
+    let schema = Schema::from_entry(alloc, entry)?;
+    Ok(schema.fields().len() == count)
 }
 
 /// The entry, its copy and its schema have so many fields and annotations.
 fn check_entry(rt: &impl Abort, alloc: Global, count: usize, notes: usize) -> Result<(), Fail> {
-    let mut entry = entry(alloc, count, notes)?;
-    let copy = check_copy(rt, alloc, &entry, count, notes)?;
-    entry.push_annotation_copies(alloc, copy.annotations())?;
-    let schema = Schema::from_entry(alloc, copy)?;
-    assert_eq!(rt; schema.fields().len(), count);
+    let entry = entry(alloc, count, notes)?;
+    assert!(rt; entry.fields().len() == count && entry.annotations().len() == notes);
+    assert!(rt; is_copied(alloc, &entry)?);
+    assert!(rt; has_fields(alloc, entry, count)?);
     Ok(())
 }
 
-/// The entry and the schema made of fields alone have so many.
-fn check_fields(rt: &impl Abort, alloc: Global, count: usize) -> Result<(), Fail> {
+/// The entry made of fields alone has so many.
+fn is_entry_of(alloc: Global, count: usize) -> Result<bool, AllocError> {
     let fields = fields(alloc, count, FieldType::U8)?;
     let entry = SchemaEntry::new(alloc, "S", &fields)?;
-    assert_eq!(rt; entry.fields().len(), count);
-    let schema = Schema::new(alloc, "S", fields)?;
-    assert_eq!(rt; schema.fields().len(), count);
-    Ok(())
+    Ok(entry.fields().len() == count)
+}
+
+/// The schema made of fields alone has so many.
+fn is_schema_of(alloc: Global, count: usize) -> Result<bool, AllocError> {
+    let schema = Schema::new(alloc, "S", fields(alloc, count, FieldType::U8)?)?;
+    Ok(schema.fields().len() == count)
+}
+
+/// Entries and schemas of so many fields, of so many annotations, and of both.
+fn check_entries(rt: &impl Abort, alloc: Global, count: usize) -> Result<(), Fail> {
+    assert!(rt; is_entry_of(alloc, count)?);
+    assert!(rt; is_schema_of(alloc, count)?);
+    assert!(rt; are_appended(alloc, count)?);
+    check_entry(rt, alloc, count, 0)?;
+    check_entry(rt, alloc, 0, count)?;
+    check_entry(rt, alloc, count, count)
 }
 
 #[test]
 fn entries_of_each_count(rt: HostRuntime) -> Result<(), Fail> {
     for count in COUNTS {
-        check_fields(&rt, rt.alloc(), count)?;
-        check_entry(&rt, rt.alloc(), count, 0)?;
-        check_entry(&rt, rt.alloc(), 0, count)?;
-        check_entry(&rt, rt.alloc(), count, count)?;
+        check_entries(&rt, rt.alloc(), count)?;
     }
     check_entry(&rt, rt.alloc(), 65_535, 65_535)
 }
@@ -155,34 +168,41 @@ fn registry(alloc: Global, ids: usize, count: usize) -> Result<SchemaRegistry, R
 }
 
 /// The registry holds an entry under each id below this count.
-fn check_held(rt: &impl Abort, registry: &SchemaRegistry, ids: usize) {
+fn is_held(registry: &SchemaRegistry, ids: usize) -> bool {
     for id in 0..ids.min(65_536) {
-        assert!(rt; registry.get(WireTypeId(id as u16)).is_some());
+        if registry.get(WireTypeId(id as u16)).is_none() {
+            return false;
+        }
     }
+    true
 }
 
-/// The registry and its copy hold so many entries.
-fn check_registry(rt: &impl Abort, alloc: Global, ids: usize, count: usize) -> Result<(), Fail> {
+/// The copy of the registry holds as much.
+fn is_copy_held(registry: &SchemaRegistry, ids: usize) -> Result<bool, AllocError> {
+    let copy = registry.clone()?;
+    Ok(is_held(&copy, ids))
+}
+
+/// A registry and its copy hold so many entries, each of so many fields and annotations.
+fn are_held(alloc: Global, ids: usize, count: usize) -> Result<bool, Fail> {
     let registry = registry(alloc, ids, count)?;
-    check_held(rt, &registry, ids);
-    check_held(rt, &registry.clone()?, ids);
-    Ok(())
+    Ok(is_held(&registry, ids) && is_copy_held(&registry, ids)?)
 }
 
 /// A registry holds an entry of so many fields and annotations under the greatest wire id.
-fn check_greatest(rt: &impl Abort, alloc: Global, count: usize) -> Result<(), Fail> {
+fn is_greatest_held(alloc: Global, count: usize) -> Result<bool, Fail> {
     let mut registry = SchemaRegistry::new(alloc);
     put(&mut registry, alloc, 65_535, count)?;
-    assert!(rt; registry.get(WireTypeId(65_535)).is_some());
-    Ok(())
+    Ok(registry.get(WireTypeId(65_535)).is_some())
 }
 
 #[test]
 fn registries_of_each_count(rt: HostRuntime) -> Result<(), Fail> {
     for count in COUNTS {
-        check_registry(&rt, rt.alloc(), count, 0)?;
-        check_registry(&rt, rt.alloc(), 1, count)?;
-        check_greatest(&rt, rt.alloc(), count)?;
+        assert!(rt; are_held(rt.alloc(), count, 0)?);
+        assert!(rt; are_held(rt.alloc(), 1, count)?);
+        assert!(rt; is_greatest_held(rt.alloc(), count)?);
     }
-    check_registry(&rt, rt.alloc(), 65_536, 0)
+    assert!(rt; are_held(rt.alloc(), 65_536, 0)?);
+    Ok(())
 }

@@ -1,63 +1,54 @@
-//! Reading what was written, at once and frame by frame, by both readers, copying it, and its dump.
+//! Reading what was written, at once and frame by frame, by both readers, and copying it.
 
-use crate::tests::ample::borrowed::check_borrowed;
-use crate::tests::calls::{all, decoder_of, next_one};
-use crate::tests::checks::check_end;
+use crate::tests::ample::borrowed::is_borrowed;
+use crate::tests::calls::{all, decoder_of, next, next_one};
 use dial9_trace_format::decoder::{DecodedFrame, Decoder};
 use std::alloc::Global;
 use std::process::Abort;
 use std::test::Fail;
-use trace_lines::dump::{WHOLE, dump};
 
 /// The next frame is a copy of this one.
-fn check_next(
-    rt: &impl Abort,
-    alloc: Global,
-    decoder: &mut Decoder<'_>,
-    frame: &DecodedFrame,
-) -> Result<(), Fail> {
+fn gives(alloc: Global, decoder: &mut Decoder<'_>, frame: &DecodedFrame) -> Result<bool, Fail> {
     let copy = frame.clone(alloc)?;
-    let found = next_one(decoder)?;
-    assert!(rt; found == copy);
-    Ok(())
+    Ok(next_one(decoder)? == copy)
 }
 
-/// Frame by frame the trace is read as these.
-fn check_one_by_one(
-    rt: &impl Abort,
+/// The frames are these, one by one, and no others.
+fn gives_all(
     alloc: Global,
-    bytes: &[u8],
+    decoder: &mut Decoder<'_>,
     frames: &[DecodedFrame],
-) -> Result<(), Fail> {
-    let mut decoder = decoder_of(alloc, bytes)?;
+) -> Result<bool, Fail> {
     for frame in frames {
-        check_next(rt, alloc, &mut decoder, frame)?;
+        if !gives(alloc, decoder, frame)? {
+            return Ok(false);
+        }
     }
-    check_end(rt, &mut decoder, bytes.len())
+    Ok(next(decoder)?.is_none())
+}
+
+/// The frames are these, one by one, to the end.
+fn is_read(alloc: Global, bytes: &[u8], frames: &[DecodedFrame]) -> Result<bool, Fail> {
+    let mut decoder = decoder_of(alloc, bytes)?;
+    Ok(gives_all(alloc, &mut decoder, frames)? && decoder.position() == bytes.len())
+}
+
+/// All frames of the trace, where they go to its end.
+fn all_to_the_end(alloc: Global, bytes: &[u8]) -> Result<Vec<DecodedFrame>, Fail> {
+    let mut decoder = decoder_of(alloc, bytes)?;
+    let frames = all(&mut decoder)?;
+    if decoder.position() == bytes.len() {
+        Ok(frames)
+    } else {
+        Err(Fail::from("the frames end before the trace"))
+    }
 }
 
 /// The trace is read whole as so many frames, also borrowed ones.
 pub fn check_trace(rt: &impl Abort, alloc: Global, bytes: &[u8], count: usize) -> Result<(), Fail> {
-    let mut decoder = decoder_of(alloc, bytes)?;
-    let frames = all(&mut decoder)?;
-    assert_eq!(rt; decoder.position(), bytes.len());
-    assert_eq!(rt; frames.len(), count);
-    check_one_by_one(rt, alloc, bytes, &frames)?;
-    check_borrowed(rt, alloc, bytes, &frames)
-}
-
-/// The dump of the trace is whole, as it is and resolved.
-pub fn check_whole_dump(rt: &impl Abort, alloc: Global, bytes: &[u8]) {
-    for resolve in [false, true] {
-        let mut out = Vec::new(alloc);
-        assert_eq!(rt; dump(alloc, bytes, &mut out, resolve), WHOLE);
-        assert!(rt; out.as_slice().ends_with(b"\nend whole\n"));
-    }
-}
-
-/// The trace is read whole as so many frames, and its dump is whole.
-pub fn check_read(rt: &impl Abort, alloc: Global, bytes: &[u8], count: usize) -> Result<(), Fail> {
-    check_trace(rt, alloc, bytes, count)?;
-    check_whole_dump(rt, alloc, bytes);
+    let frames = all_to_the_end(alloc, bytes)?;
+    assert!(rt; frames.len() == count);
+    assert!(rt; is_read(alloc, bytes, &frames)?);
+    assert!(rt; is_borrowed(alloc, bytes, &frames)?);
     Ok(())
 }

@@ -3,30 +3,52 @@
 use crate::tests::ample::numbers::field;
 use crate::tests::ample::{MILLION, SIZED, SIZES, pairs_of_texts, spelled_length, text, value};
 use crate::tests::calls::encoded;
-use crate::tests::checks::check_number;
 use crate::tests::read_values::check_read;
 use crate::tests::written_values::{write_ids, write_numbers};
 use dial9_trace_format::leb128::EncodeError;
-use dial9_trace_format::types::{EventEncoder, FieldType, StackFrames};
+use dial9_trace_format::types::{EventEncoder, FieldType, FieldValue, StackFrames};
 use std::alloc::Global;
 use std::process::Abort;
 use std::test::Fail;
 
-/// The value of this size is made, spelled, read and copied.
+/// The value has so many bytes by its own kind, and both readers read it.
 fn check_sized(
     rt: &impl Abort,
     alloc: Global,
     field_type: FieldType,
-    size: usize,
+    value: &FieldValue,
+    length: u64,
 ) -> Result<(), Fail> {
-    let value = value(alloc, field_type, size)?;
-    let bytes = encoded(alloc, &value)?;
-    assert_eq!(rt; bytes.len() as u64, spelled_length(field_type, size));
-    check_read(rt, alloc, field_type, &bytes, &value)
+    let bytes = encoded(alloc, value)?;
+    assert!(rt; bytes.len() as u64 == length);
+    check_read(rt, alloc, field_type, &bytes, value)
 }
 
-/// The value of this size is written as a field, by the type and by its optional type.
+/// The value has so many bytes as a field of the type, and one more as one of its optional type.
 fn check_field(
+    rt: &impl Abort,
+    alloc: Global,
+    field_type: FieldType,
+    value: &FieldValue,
+    length: u64,
+) -> Result<(), Fail> {
+    let plain = count_of_field(alloc, field_type, value)?;
+    let optional = count_of_field(alloc, field_type.optional(), value)?;
+    assert!(rt; plain == length && optional == length.saturating_add(1));
+    Ok(())
+}
+
+/// How many bytes the value has as a field of this type.
+fn count_of_field(
+    alloc: Global,
+    field_type: FieldType,
+    value: &FieldValue,
+) -> Result<u64, EncodeError> {
+    Ok(field(alloc, field_type, value)?.len() as u64)
+}
+
+/// The value of this size is made, spelled and read, and written as a field.
+fn check_value(
     rt: &impl Abort,
     alloc: Global,
     field_type: FieldType,
@@ -34,20 +56,15 @@ fn check_field(
 ) -> Result<(), Fail> {
     let value = value(alloc, field_type, size)?;
     let length = spelled_length(field_type, size);
-    let plain = field(alloc, field_type, &value)?;
-    check_number(rt, plain.len() as u64, length);
-    let optional = field(alloc, field_type.optional(), &value)?;
-    check_number(rt, optional.len() as u64, length.saturating_add(1));
-    Ok(())
+    check_sized(rt, alloc, field_type, &value, length)?;
+    check_field(rt, alloc, field_type, &value, length)
 }
 
-/// The value of this size is made, spelled, read and copied, and written as a field.
 #[test]
 fn values_of_each_size(rt: HostRuntime) -> Result<(), Fail> {
     for field_type in SIZED {
         for size in SIZES {
-            check_sized(&rt, rt.alloc(), field_type, size)?;
-            check_field(&rt, rt.alloc(), field_type, size)?;
+            check_value(&rt, rt.alloc(), field_type, size)?;
         }
     }
     Ok(())
@@ -56,8 +73,7 @@ fn values_of_each_size(rt: HostRuntime) -> Result<(), Fail> {
 #[test]
 fn values_of_a_million(rt: HostRuntime) -> Result<(), Fail> {
     for field_type in SIZED {
-        check_sized(&rt, rt.alloc(), field_type, MILLION)?;
-        check_field(&rt, rt.alloc(), field_type, MILLION)?;
+        check_value(&rt, rt.alloc(), field_type, MILLION)?;
     }
     Ok(())
 }
@@ -92,18 +108,11 @@ fn texts_by_texts(alloc: Global, count: usize) -> Result<Vec<u8>, EncodeError> {
 /// The calls of this size write what docs/FORMAT.md says of their length.
 fn check_calls(rt: &impl Abort, alloc: Global, size: usize) -> Result<(), Fail> {
     let text = spelled_length(FieldType::String, size);
-    let texts = texts_and_bytes(alloc, size)?;
-    assert_eq!(rt; texts.len() as u64, text.saturating_mul(2));
-    let stack = addresses(alloc, size)?;
-    assert_eq!(rt;
-        stack.len() as u64,
-        spelled_length(FieldType::StackFrames, size)
-    );
-    let pairs = texts_by_texts(alloc, size.min(1_000_000))?;
-    assert_eq!(rt;
-        pairs.len() as u64,
-        spelled_length(FieldType::StringMap, size)
-    );
+    assert!(rt; texts_and_bytes(alloc, size)?.len() as u64 == text.saturating_mul(2));
+    let stack = spelled_length(FieldType::StackFrames, size);
+    assert!(rt; addresses(alloc, size)?.len() as u64 == stack);
+    let pairs = spelled_length(FieldType::StringMap, size);
+    assert!(rt; texts_by_texts(alloc, size.min(1_000_000))?.len() as u64 == pairs);
     Ok(())
 }
 
@@ -130,7 +139,7 @@ fn many_fields(alloc: Global, count: usize) -> Result<Vec<u8>, EncodeError> {
 fn fields_after_any_count_of_others(rt: HostRuntime) -> Result<(), Fail> {
     for count in SIZES {
         let length = (count as u64).saturating_mul(34);
-        assert_eq!(rt; many_fields(rt.alloc(), count)?.len() as u64, length);
+        assert!(rt; many_fields(rt.alloc(), count)?.len() as u64 == length);
     }
     Ok(())
 }
