@@ -3,7 +3,7 @@ use Rattle.std.specs.Prelude.{◌≡◌, ◌⊎◌, ℕ, ◌-◌, Bool, true, fa
 use Rattle.std.specs.List.{flat_map}
 use Rattle.trace_values.specs.Values.{Kind, owned_reader, borrowed}
 use Rattle.trace_wire.specs.Schemas.{Shape}
-use Rattle.trace_wire.specs.Frames.{Grammar, empty, Frame, Schema}
+use Rattle.trace_wire.specs.Frames.{Grammar, empty, Frame, Schema, header_length}
 use Rattle.trace_wire.specs.Runs.{Begins, Ending, Whole, Stopped, Conflict, IsLongest, Item, items, Pools, no_pools}
 use Rattle.dial9_trace_format.specs.Decoding.{StartsWith}
 use Rattle.dial9_trace_format.specs.Sinks.{events_of}
@@ -59,12 +59,12 @@ pub record IsNoDump (input : List ℕ) (status : ℕ) (text : List ℕ) : Type 0
   pub status_is : status ≡ 1
   pub text_is : text ≡ line no_header_line
 
--- the dump of a stream: its version, and the lines of what stands after the five bytes of its header
+-- the dump of a stream: its version, and the lines of what stands after its header
 pub record IsStreamDump (form : Form) (input : List ℕ) (status : ℕ) (text : List ℕ) : Type 0 where
   pub version : ℕ
   pub header : StartsWith input version
   pub lines : List ℕ
-  pub following : IsDumpFrom form empty no_pools (length input) (drop 5 input) status lines
+  pub following : IsDumpFrom form empty no_pools (length input) (drop header_length input) status lines
   pub text_is : text ≡ line (first_line version) ++ lines
 
 -- the dump of any input in a form
