@@ -396,7 +396,7 @@ fn reply_of(
 {
     match call {
         ScriptCall::Register { handle } => {
-            let schema = schema_at(&handles.schemas, line, *handle)?;
+            let schema = schema_under(&handles.schemas, line, *handle)?;
             Ok(wire_id_reply(encoder.register_existing(schema)))
         }
         ScriptCall::Event {
@@ -404,7 +404,7 @@ fn reply_of(
             time,
             values,
         } => {
-            let schema = schema_at(&handles.schemas, line, *handle)?;
+            let schema = schema_under(&handles.schemas, line, *handle)?;
             Ok(done_reply(encoder.write_event(schema, *time, values)))
         }
         ScriptCall::WriteTyped {
@@ -412,7 +412,7 @@ fn reply_of(
             time,
             values,
         } => {
-            let sample = sample_at(&handles.types, line, *handle)?;
+            let sample = sample_under(&handles.types, line, *handle)?;
             match write_sample(alloc, encoder, sample, *time, values) {
                 Ok(reply) => Ok(reply),
                 Err(unheld) => Err(unheld_at(line, unheld)),
@@ -522,7 +522,7 @@ fn stack_pool_of(alloc: Global, stacks: &[PoolStack]) -> Result<Vec<StackPoolEnt
 }
 
 // The schema that was defined last under a handle.
-fn schema_at(
+fn schema_under(
     schemas: &BTreeMap<u64, Schema>,
     line: usize,
     handle: u64,
@@ -537,7 +537,11 @@ fn schema_at(
 }
 
 // The sample type that was defined last under a handle.
-fn sample_at(types: &BTreeMap<u64, Sample>, line: usize, handle: u64) -> Result<Sample, PlayError>
+fn sample_under(
+    types: &BTreeMap<u64, Sample>,
+    line: usize,
+    handle: u64,
+) -> Result<Sample, PlayError>
     ensures found { IfOk result (λ sample. under types.now.entries handle ≡ Some sample) }
     ensures unknown { IfErr result (λ e. (e ≡ errors.Unknown line handle) × (under types.now.entries handle ≡ None)) }
 {

@@ -95,7 +95,7 @@ fn recordings_in(alloc: Global, text: &str) -> Result<Vec<Recording<'_>>, Record
     let mut rest = text;
     while !rest.is_empty() {
         let number = recordings.len().saturating_add(1);
-        let (recording, after) = recording_at(rest).ok_or(RecordingError::Parts(number))?;
+        let (recording, after) = leading_recording(rest).ok_or(RecordingError::Parts(number))?;
         recordings.push(recording)?;
         rest = after;
     }
@@ -103,7 +103,7 @@ fn recordings_in(alloc: Global, text: &str) -> Result<Vec<Recording<'_>>, Record
 }
 
 // The recording at the front, and the rest.
-fn recording_at(text: &str) -> Option<(Recording<'_>, &str)>
+fn leading_recording(text: &str) -> Option<(Recording<'_>, &str)>
     ensures parts { IfSome result (λ x. text.now ≡ recording_text x.0 ++ x.1.now) }
     ensures shorter { IfSome result (λ x. length x.1.now < length text.now) }
 {

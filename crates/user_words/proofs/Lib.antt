@@ -1,3 +1,3 @@
-pub mod MarkLemmas
+pub mod TickLemmas
 pub mod TallyLemmas
 pub mod TornLemmas

@@ -1,5 +1,5 @@
 pub mod Silence
-pub mod Marks
+pub mod Ticks
 pub mod Tallies
 pub mod Beats
 pub mod Torn

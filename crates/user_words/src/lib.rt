@@ -5,7 +5,7 @@
 
 pub mod beats;
 pub mod laws;
-pub mod marks;
 pub mod silent;
 pub mod tally;
+pub mod ticks;
 pub mod torn;

@@ -9,7 +9,9 @@ ghost use Rattle.trace_recordings.specs.Scripts.{event_text, AreDigitsOf, IsPair
 use crate::script::call::ScriptCall;
 use crate::script::definitions::definition_of;
 use crate::script::line_error::LineError;
-use crate::script::parts::{addresses_at, after_mark, name_at, number_at, value_at};
+use crate::script::parts::{
+    after_mark, leading_addresses, leading_name, leading_number, leading_value,
+};
 use crate::script::pools::{pool_stacks, pool_texts};
 use hex::FromHex;
 use std::alloc::Global;
@@ -18,9 +20,9 @@ use trace_values::types::FieldValue;
 /// Reads what a line asks for. A line that is empty or begins with `#`, and one that is `reset`, `resume` or `bare`, is never refused.
 ///
 /// Of any other: `ScriptCall` where its first word is that of no call with parts; else the first fault of its parts, from left to right.
-/// `Mark(' ')` where a part has no space before it; `Number` of a handle, a slot or a time; what `definition_of`, `value_at`, `name_at`,
-/// `addresses_at`, `pool_texts` and `pool_stacks` refuse of what the call has; `Hexadecimal` of bytes; `Excess` where more stands after a
-/// handle, a text or addresses that end the call. `Memory` where a growth was refused.
+/// `Mark(' ')` where a part has no space before it; `Number` of a handle, a slot or a time; what `definition_of`, `leading_value`,
+/// `leading_name`, `leading_addresses`, `pool_texts` and `pool_stacks` refuse of what the call has; `Hexadecimal` of bytes; `Excess` where
+/// more stands after a handle, a text or addresses that end the call. `Memory` where a growth was refused.
 pub fn call_of(alloc: Global, line: &[u8]) -> Result<ScriptCall, LineError>
     ensures says { IfOk result (λ call. Says call line.now) }
     ensures unsaid { IfErr result (λ _. SaysNoWord line.now) }
@@ -81,7 +83,7 @@ fn first_word(line: &[u8]) -> (&[u8], &[u8])
 fn define_call(alloc: Global, line: &[u8]) -> Result<ScriptCall, LineError>
     ensures { IfOk result (λ call. Says call (codes "define" ++ line.now)) }
 {
-    let (handle, rest) = number_at(alloc, space(line)?)?;
+    let (handle, rest) = leading_number(alloc, space(line)?)?;
     let definition = definition_of(alloc, space(rest)?)?;
     Ok(ScriptCall::Define { handle, definition })
 }
@@ -90,7 +92,7 @@ fn define_call(alloc: Global, line: &[u8]) -> Result<ScriptCall, LineError>
 fn register_call(alloc: Global, line: &[u8]) -> Result<ScriptCall, LineError>
     ensures { IfOk result (λ call. Says call (codes "register" ++ line.now)) }
 {
-    let (handle, rest) = number_at(alloc, space(line)?)?;
+    let (handle, rest) = leading_number(alloc, space(line)?)?;
     nothing_left(rest)?;
     Ok(ScriptCall::Register { handle })
 }
@@ -111,8 +113,8 @@ fn event_call(alloc: Global, line: &[u8]) -> Result<ScriptCall, LineError>
 fn type_call(alloc: Global, line: &[u8]) -> Result<ScriptCall, LineError>
     ensures { IfOk result (λ call. Says call (codes "type" ++ line.now)) }
 {
-    let (handle, rest) = number_at(alloc, space(line)?)?;
-    let (slot, rest) = number_at(alloc, space(rest)?)?;
+    let (handle, rest) = leading_number(alloc, space(line)?)?;
+    let (slot, rest) = leading_number(alloc, space(rest)?)?;
     let definition = definition_of(alloc, space(rest)?)?;
     Ok(ScriptCall::DefineType {
         handle,
@@ -137,7 +139,7 @@ fn write_call(alloc: Global, line: &[u8]) -> Result<ScriptCall, LineError>
 fn string_call(alloc: Global, line: &[u8]) -> Result<ScriptCall, LineError>
     ensures { IfOk result (λ call. Says call (codes "string" ++ line.now)) }
 {
-    let (text, rest) = name_at(alloc, space(line)?)?;
+    let (text, rest) = leading_name(alloc, space(line)?)?;
     nothing_left(rest)?;
     Ok(ScriptCall::InternString { text })
 }
@@ -146,7 +148,7 @@ fn string_call(alloc: Global, line: &[u8]) -> Result<ScriptCall, LineError>
 fn stack_call(alloc: Global, line: &[u8]) -> Result<ScriptCall, LineError>
     ensures { IfOk result (λ call. Says call (codes "stack" ++ line.now)) }
 {
-    let (frames, rest) = addresses_at(alloc, space(line)?)?;
+    let (frames, rest) = leading_addresses(alloc, space(line)?)?;
     nothing_left(rest)?;
     Ok(ScriptCall::InternStack { frames })
 }
@@ -180,8 +182,8 @@ fn raw_call(alloc: Global, line: &[u8]) -> Result<ScriptCall, LineError>
 fn event_parts(alloc: Global, line: &[u8]) -> Result<(u64, u64, Vec<FieldValue>), LineError>
     ensures { IfOk result (λ x. line.now ≡ event_text x.0 x.1 (views x.2.items)) }
 {
-    let (handle, rest) = number_at(alloc, line)?;
-    let (time, rest) = number_at(alloc, space(rest)?)?;
+    let (handle, rest) = leading_number(alloc, line)?;
+    let (time, rest) = leading_number(alloc, space(rest)?)?;
     let values = values_of(alloc, rest)?;
     Ok((handle, time, values))
 }
@@ -193,7 +195,7 @@ fn values_of(alloc: Global, line: &[u8]) -> Result<Vec<FieldValue>, LineError>
     let mut values = Vec::new(alloc);
     let mut rest = line;
     while !rest.is_empty() {
-        let (value, after) = spaced_value_at(alloc, rest)?;
+        let (value, after) = leading_spaced_value(alloc, rest)?;
         values.push(value)?;
         rest = after;
     }
@@ -201,11 +203,11 @@ fn values_of(alloc: Global, line: &[u8]) -> Result<Vec<FieldValue>, LineError>
 }
 
 // A value after a space, and the rest.
-fn spaced_value_at(alloc: Global, line: &[u8]) -> Result<(FieldValue, &[u8]), LineError>
+fn leading_spaced_value(alloc: Global, line: &[u8]) -> Result<(FieldValue, &[u8]), LineError>
     ensures text { IfOk result (λ x. line.now ≡ spaced_value (view x.0) ++ x.1.now) }
     ensures shorter { Shortens line.now result }
 {
-    value_at(alloc, space(line)?)
+    leading_value(alloc, space(line)?)
 }
 
 // The bytes of pairs of hexadecimal digits, between which a space may stand.
@@ -215,7 +217,7 @@ fn hex_bytes(alloc: Global, line: &[u8]) -> Result<Vec<u8>, LineError>
     let mut bytes = Vec::new(alloc);
     let mut rest = line;
     loop {
-        let (byte, after) = pair_at(rest).ok_or(LineError::Hexadecimal)?;
+        let (byte, after) = leading_pair(rest).ok_or(LineError::Hexadecimal)?;
         bytes.push(byte)?;
         match after {
             [] => return Ok(bytes),
@@ -226,7 +228,7 @@ fn hex_bytes(alloc: Global, line: &[u8]) -> Result<Vec<u8>, LineError>
 }
 
 // The byte of the two hexadecimal digits at the front, and the rest.
-fn pair_at(text: &[u8]) -> Option<(u8, &[u8])>
+fn leading_pair(text: &[u8]) -> Option<(u8, &[u8])>
     ensures pair { IfSome result (λ x. (pair : List ℕ) × IsPair x.0 pair × (text.now ≡ pair ++ x.1.now)) }
     ensures shorter { IfSome result (λ x. length x.1.now < length text.now) }
 {

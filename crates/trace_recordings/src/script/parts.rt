@@ -25,7 +25,7 @@ pub fn after_mark<'a>(line: &'a [u8], mark: &[u8]) -> Option<&'a [u8]>
 
 /// A number in decimal digits, and the rest. `Number` where what the digits at the front say (`loose::number`) does not stand there as it is
 /// printed, and so where no digit does. `Memory` where a growth was refused.
-pub fn number_at(alloc: Global, line: &[u8]) -> Result<(u64, &[u8]), LineError>
+pub fn leading_number(alloc: Global, line: &[u8]) -> Result<(u64, &[u8]), LineError>
     ensures { IfOk result (λ x. line.now ≡ decimal x.0 ++ x.1.now) }
 {
     let (number, _) = loose::number(line, 10);
@@ -36,7 +36,7 @@ pub fn number_at(alloc: Global, line: &[u8]) -> Result<(u64, &[u8]), LineError>
 
 /// The bytes of a text in quotes, and the rest. `Text` where no text in quotes stands at the front, or it is spelled in another way than it is
 /// printed. `Memory` where a growth was refused.
-pub fn text_at(alloc: Global, line: &[u8]) -> Result<(Vec<u8>, &[u8]), LineError>
+pub fn leading_text(alloc: Global, line: &[u8]) -> Result<(Vec<u8>, &[u8]), LineError>
     ensures { IfOk result (λ x. line.now ≡ quoted x.0.items ++ x.1.now) }
 {
     let (bytes, _) = loose::text(alloc, line)?;
@@ -46,18 +46,18 @@ pub fn text_at(alloc: Global, line: &[u8]) -> Result<(Vec<u8>, &[u8]), LineError
     Ok((bytes, rest))
 }
 
-/// A text in quotes that is UTF-8, and the rest. `Text` and `Memory` as `text_at`; `Utf8` where its bytes are not UTF-8.
-pub fn name_at(alloc: Global, line: &[u8]) -> Result<(String, &[u8]), LineError>
+/// A text in quotes that is UTF-8, and the rest. `Text` and `Memory` as `leading_text`; `Utf8` where its bytes are not UTF-8.
+pub fn leading_name(alloc: Global, line: &[u8]) -> Result<(String, &[u8]), LineError>
     ensures { IfOk result (λ x. line.now ≡ quoted (string_bytes x.0) ++ x.1.now) }
 {
-    let (bytes, rest) = text_at(alloc, line)?;
+    let (bytes, rest) = leading_text(alloc, line)?;
     let name = String::from_utf8(bytes).map_err(|_| LineError::Utf8)?;
     Ok((name, rest))
 }
 
 /// Addresses in brackets, and the rest. `Addresses` where none stand at the front, or they are spelled in another way than they are printed.
 /// `Memory` where a growth was refused.
-pub fn addresses_at(alloc: Global, line: &[u8]) -> Result<(Vec<u64>, &[u8]), LineError>
+pub fn leading_addresses(alloc: Global, line: &[u8]) -> Result<(Vec<u64>, &[u8]), LineError>
     ensures { IfOk result (λ x. line.now ≡ address_list x.0.items ++ x.1.now) }
 {
     let (addresses, _) = loose::addresses(alloc, line)?;
@@ -69,7 +69,7 @@ pub fn addresses_at(alloc: Global, line: &[u8]) -> Result<(Vec<u64>, &[u8]), Lin
 
 /// A value as a dump shows it, and the rest. What `loose::value` refuses of one with at most `MAX_NESTING` values around its innermost; `Value`
 /// too where it is spelled in another way than it is printed. `Memory` where a growth was refused.
-pub fn value_at(alloc: Global, line: &[u8]) -> Result<(FieldValue, &[u8]), LineError>
+pub fn leading_value(alloc: Global, line: &[u8]) -> Result<(FieldValue, &[u8]), LineError>
     ensures { IfOk result (λ x. line.now ≡ value_text (view x.0) ++ x.1.now) }
 {
     let (value, _) = loose::value(alloc, MAX_NESTING, line)?;
@@ -80,7 +80,7 @@ pub fn value_at(alloc: Global, line: &[u8]) -> Result<(FieldValue, &[u8]), LineE
 }
 
 /// The name of a field type, and the rest. `FieldType` where the letters and digits at the front are the name of none. Takes no memory.
-pub fn type_at(line: &[u8]) -> Result<(FieldType, &[u8]), LineError>
+pub fn leading_type(line: &[u8]) -> Result<(FieldType, &[u8]), LineError>
     ensures { IfOk result (λ x. line.now ≡ type_name x.0 ++ x.1.now) }
 {
     let end = line
