@@ -70,10 +70,15 @@ const REGISTERING: [(RegisterError, &str); 2] = [
 ];
 
 #[test]
-fn faults_of_encoding_and_registering(rt: HostRuntime) -> Result<(), Fail> {
+fn faults_of_encoding(rt: HostRuntime) -> Result<(), Fail> {
     for (fault, text) in ENCODING {
         assert!(rt; format!(in rt.alloc(); "{fault}")?.as_str() == text);
     }
+    Ok(())
+}
+
+#[test]
+fn faults_of_registering(rt: HostRuntime) -> Result<(), Fail> {
     for (fault, text) in REGISTERING {
         assert!(rt; format!(in rt.alloc(); "{fault}")?.as_str() == text);
     }
