@@ -1,7 +1,8 @@
 //! The lines of a script.
 
-ghost use Rattle.std.specs.Prelude.{◌≡◌, ◌<◌, ◌++◌, ℕ, List, [], length, IfErr, IfOk, IfSome, IsNone, OnOk, codes, decimal};
-ghost use Rattle.std.specs.List.{flat_map};
+ghost use Rattle.std.specs.Prelude.{◌≡◌, ◌↔◌, ◌<◌, ◌≤◌, ◌++◌, ℕ, List, [], length, take, IfErr, IfOk, IfSome, IsNone, IsSome, OnOk, codes, decimal};
+ghost use Rattle.std.specs.List.{flat_map, AllPass};
+ghost use Rattle.hex.specs.Hex.{is_hex_digit};
 ghost use Rattle.trace_values.specs.View.{view, views};
 ghost use Rattle.trace_lines.specs.Lines.{spaced_value};
 ghost use Rattle.trace_recordings.specs.Scripts.{event_text, AreDigitsOf, IsPair, Says, SaysNoWord, Shortens};
@@ -216,7 +217,7 @@ fn hex_bytes(alloc: Global, line: &[u8]) -> Result<Vec<u8>, LineError>
 {
     let mut bytes = Vec::new(alloc);
     let mut rest = line;
-    loop {
+    'pairs: loop {
         let (byte, after) = leading_pair(rest).ok_or(LineError::Hexadecimal)?;
         bytes.push(byte)?;
         match after {
@@ -227,8 +228,9 @@ fn hex_bytes(alloc: Global, line: &[u8]) -> Result<Vec<u8>, LineError>
     }
 }
 
-// The byte of the two hexadecimal digits at the front, and the rest.
+// The byte of the two hexadecimal digits at the front, and the rest. None where no two stand there.
 fn leading_pair(text: &[u8]) -> Option<(u8, &[u8])>
+    ensures found { IsSome result ↔ ((2 ≤ length text.now) × AllPass is_hex_digit (take 2 text.now)) }
     ensures pair { IfSome result (λ x. (pair : List ℕ) × IsPair x.0 pair × (text.now ≡ pair ++ x.1.now)) }
     ensures shorter { IfSome result (λ x. length x.1.now < length text.now) }
 {
