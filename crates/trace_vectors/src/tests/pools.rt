@@ -71,6 +71,7 @@ fn reads_texts(alloc: Global, bytes: &[u8], texts: &[(u32, &str)]) -> Result<boo
 fn texts_by_rising_id(rt: HostRuntime) -> Result<(), Fail> {
     for (bytes, texts) in TEXTS {
         assert!(rt; reads_texts(rt.alloc(), bytes, texts)?);
+        assert!(rt; lacks_seven(rt.alloc(), bytes)?);
     }
     Ok(())
 }
@@ -134,6 +135,7 @@ fn reads_stacks(alloc: Global, bytes: &[u8], stacks: &[(u32, &[u64])]) -> Result
 fn stacks_by_rising_id(rt: HostRuntime) -> Result<(), Fail> {
     for (bytes, stacks) in STACKS {
         assert!(rt; reads_stacks(rt.alloc(), bytes, stacks)?);
+        assert!(rt; lacks_seven(rt.alloc(), bytes)?);
     }
     Ok(())
 }

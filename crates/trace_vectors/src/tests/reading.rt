@@ -69,7 +69,7 @@ fn gives_ev(decoder: &mut Decoder<'_>) -> Result<bool, Fail> {
 }
 
 /// The decoder gives the event, and is after it then.
-fn gives_event(decoder: &mut Decoder<'_>) -> Result<bool, Fail> {
+fn gives_that_event(decoder: &mut Decoder<'_>) -> Result<bool, Fail> {
     Ok(is_event(&next_one(decoder)?) && Decoder::position(decoder) == 26)
 }
 
@@ -87,7 +87,7 @@ fn gives_conflict(decoder: &mut Decoder<'_>) -> bool {
 fn conflict(rt: HostRuntime) -> Result<(), Fail> {
     assert!(rt; reads_all(rt.alloc(), &CONFLICT, 2, 40)?);
     let mut decoder = decoder_of(rt.alloc(), &CONFLICT)?;
-    assert!(rt; gives_ev(&mut decoder)? && gives_event(&mut decoder)?);
+    assert!(rt; gives_ev(&mut decoder)? && gives_that_event(&mut decoder)?);
     assert!(rt; gives_conflict(&mut decoder) && gives_conflict(&mut decoder));
     assert!(rt; count_all(&mut decoder)? == 0);
     Ok(())

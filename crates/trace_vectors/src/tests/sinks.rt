@@ -31,7 +31,7 @@ pub fn is_fault(fault: &DecodeError, kind: &DecodeErrorKind, place: usize) -> bo
 }
 
 /// A visitor is shown events, and then this fault comes at this place.
-fn is_told<'a>(
+fn tells_fault<'a>(
     decoder: &mut Decoder<'a>,
     visitor: &mut Seen,
     kind: &DecodeErrorKind,
@@ -54,7 +54,7 @@ pub fn is_shown(
         events: 0,
         times: 0,
     };
-    let is_told = is_told(decoder, &mut visitor, kind, place);
+    let is_told = tells_fault(decoder, &mut visitor, kind, place);
     let is_placed = Decoder::position(decoder) == place;
     is_told && is_placed && (visitor.events, visitor.times) == seen
 }

@@ -71,7 +71,7 @@ fn count_events(decoder: &mut Decoder<'_>) -> Result<u64, Fail> {
 }
 
 /// The iterator of events gives so many, to the end.
-fn gives_events(alloc: Global, bytes: &[u8], count: u64) -> Result<bool, Fail> {
+pub fn gives_events(alloc: Global, bytes: &[u8], count: u64) -> Result<bool, Fail> {
     let mut decoder = decoder_of(alloc, bytes)?;
     Ok(count_events(&mut decoder)? == count && decoder.position() == bytes.len())
 }

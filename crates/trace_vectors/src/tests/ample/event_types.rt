@@ -1,6 +1,6 @@
 //! Many events of one type.
 
-use crate::tests::ample::borrowed::{is_read_at_once, shows_each};
+use crate::tests::ample::borrowed::{gives_events, is_read_at_once, shows_each};
 use crate::tests::calls::{all_of, fresh, put};
 use dial9_trace_format::leb128::EncodeError;
 use std::alloc::Global;
@@ -21,6 +21,7 @@ fn a_hundred_thousand_frames(rt: HostRuntime) -> Result<(), Fail> {
     let bytes = events(rt.alloc(), 99_999)?;
     assert!(rt; all_of(rt.alloc(), &bytes)?.len() == 100_000);
     assert!(rt; is_read_at_once(rt.alloc(), &bytes, 100_000)?);
+    assert!(rt; gives_events(rt.alloc(), &bytes, 99_999)?);
     assert!(rt; shows_each(rt.alloc(), &bytes)?);
     Ok(())
 }

@@ -1,9 +1,11 @@
-//! Events of values of each size and of each count of fields, schemas with names of each size, and lists of calls, as they are read and copied.
+//! Events of values of each size and of each count of fields, schemas with names of each size, frames of each kind, and lists of calls, as they are
+//! read and copied.
 
 use crate::tests::ample::schemas::fields;
 use crate::tests::ample::traces::check_trace;
 use crate::tests::ample::{COUNTS, MILLION, SIZED, SIZES, spelled_length, text, value};
 use crate::tests::calls::{all_of, fresh, put_event, register_new, run};
+use crate::tests::frames::EACH_KIND;
 use crate::tests::traces::one_definition;
 use dial9_trace_format::decoder::DecodedFrame;
 use dial9_trace_format::encoder::{Call, Encoder, Reply};
@@ -139,6 +141,11 @@ fn schema_names_of_each_size(rt: HostRuntime) -> Result<(), Fail> {
         check_name(&rt, rt.alloc(), size)?;
     }
     Ok(())
+}
+
+#[test]
+fn frames_of_each_kind(rt: HostRuntime) -> Result<(), Fail> {
+    check_trace(&rt, rt.alloc(), &EACH_KIND[..76], 5)
 }
 
 /// So many calls that intern the empty text.

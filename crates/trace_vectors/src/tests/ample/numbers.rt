@@ -125,7 +125,7 @@ fn absent_fields_of_rust_types(rt: HostRuntime) -> Result<(), Fail> {
     Ok(())
 }
 
-/// The number is sent and pushed by the same bytes, after as many.
+/// Sends the number to the one, and pushes it to the other.
 fn push_both(sent: &mut Vec<u8>, pushed: &mut Vec<u8>, number: u64) -> Result<(), EncodeError> {
     encode_unsigned(number, sent)?;
     push_number(pushed, number)?;

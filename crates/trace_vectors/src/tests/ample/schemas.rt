@@ -141,6 +141,7 @@ fn entries_of_each_count(rt: HostRuntime) -> Result<(), Fail> {
     for count in COUNTS {
         check_entries(&rt, rt.alloc(), count)?;
     }
+    assert!(rt; are_appended(rt.alloc(), 65_535)?);
     check_entry(&rt, rt.alloc(), 65_535, 65_535)
 }
 
