@@ -2,7 +2,7 @@
 use Rattle.std.specs.Prelude.{◌≡◌, ◌⊎◌, ℕ, ◌-◌, List, ◌++◌, length, drop, codes, decimal}
 use Rattle.trace_values.specs.Values.{borrowed}
 use Rattle.trace_wire.specs.Schemas.{Shape}
-use Rattle.trace_wire.specs.Frames.{Grammar, empty, Frame, Schema}
+use Rattle.trace_wire.specs.Frames.{Grammar, empty, Frame, Schema, header_length}
 use Rattle.trace_wire.specs.Runs.{Begins, Ending, Whole, Stopped, Conflict, IsLongest, no_pools}
 use Rattle.dial9_trace_format.specs.Decoding.{StartsWith}
 use Rattle.dial9_trace_format.specs.ShownEvents.{ShownEvent}
@@ -27,7 +27,7 @@ IsPlace size last rest Conflict place =
 pub record EndsAt (input : List ℕ) (frames : List Frame) (end : Ending) (place : ℕ) : Type 0 where
   pub rest : List ℕ
   pub last : Grammar
-  pub longest : IsLongest borrowed empty (drop 5 input) frames rest end last
+  pub longest : IsLongest borrowed empty (drop header_length input) frames rest end last
   pub place_is : IsPlace (length input) last rest end place
 
 -- three lines: how many events, how that ended, and at which place

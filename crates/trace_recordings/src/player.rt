@@ -415,7 +415,7 @@ fn reply_of(
             let sample = sample_under(&handles.types, line, *handle)?;
             match write_sample(alloc, encoder, sample, *time, values) {
                 Ok(reply) => Ok(reply),
-                Err(unheld) => Err(unheld_at(line, unheld)),
+                Err(unheld) => Err(unheld_on(line, unheld)),
             }
         }
         ScriptCall::InternString { text } => Ok(text_reply(encoder.intern_string(text))),
@@ -552,7 +552,7 @@ fn sample_under(
 }
 
 // The fault of a line whose values no event has.
-fn unheld_at(line: usize, unheld: Unheld) -> PlayError
+fn unheld_on(line: usize, unheld: Unheld) -> PlayError
     ensures { IsUnheld line result }
 {
     match unheld {

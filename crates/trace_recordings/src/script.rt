@@ -75,14 +75,14 @@ fn push_call(alloc: Global, calls: &mut Vec<ScriptCall>, line: &[u8]) -> Result<
     match call_of(alloc, line) {
         Ok(call) => match calls.push(call) {
             Ok(()) => Ok(()),
-            Err(_) => Err(fault_at(before, LineError::Memory)),
+            Err(_) => Err(fault_on(before, LineError::Memory)),
         },
-        Err(fault) => Err(fault_at(before, named(line, fault))),
+        Err(fault) => Err(fault_on(before, named(line, fault))),
     }
 }
 
 // A fault in the line after this many.
-fn fault_at(before: usize, fault: LineError) -> ScriptError
+fn fault_on(before: usize, fault: LineError) -> ScriptError
     ensures line { result.line ≡ counted_up before 1 }
     ensures fault { result.fault ≡ fault }
 {
