@@ -32,7 +32,8 @@ resolves task = false
 
 -- the dump of all that a reader has left was written, where it tells what it has left
 abbrev pub DumpsAll : Bool → Option (List ℕ) → Account → Account → ℕ → Type 0
-DumpsAll resolve remaining old new status = (bytes : List ℕ) → remaining ≡ Some bytes → (text : List ℕ) × IsDump resolve bytes status text × Took old new text []
+DumpsAll resolve remaining old new status = (bytes : List ℕ) → remaining ≡ Some bytes → (text : List ℕ) × IsDump resolve bytes status text
+    × Took old new text []
 
 -- whatever came of it, nothing was written, or a front of the dump of all that the reader has left
 abbrev pub DumpsFront : Bool → Option (List ℕ) → Account → Account → Type 0

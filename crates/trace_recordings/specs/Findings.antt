@@ -25,7 +25,8 @@ use Rattle.trace_recordings.specs.Sinks.{IsSinkText}
 abbrev pub ShowsDump : Form → List ℕ → List ℕ → PartFinding → Type 0
 ShowsDump form trace lines Absent = ⊥
 ShowsDump form trace lines (LeftOut name) = ⊥
-ShowsDump form trace lines (Compared differences) = (status : ℕ) × (text : List ℕ) × IsDumpAs form trace status text × ((differences.items ≡ []) ↔ (ended lines ≡ text))
+ShowsDump form trace lines (Compared differences) = (status : ℕ) × (text : List ℕ) × IsDumpAs form trace status text
+    × ((differences.items ≡ []) ↔ (ended lines ≡ text))
 
 -- the script was played, and no difference is told exactly where the trace and the recorded replies are what its calls make
 pub record ShowsPlayed (trace : List ℕ) (calls : Calls) (differences : List (String Global)) : Type 0 where

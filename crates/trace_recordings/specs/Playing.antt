@@ -116,7 +116,8 @@ under defined handle = lookup (is_at (nat_cmp handle)) defined
 abbrev pub action_asked : Defined → ScriptCall → Option Action
 action_asked defined (Register handle) = option_map (λ e. register e) (under defined.schemas handle)
 action_asked defined (Event handle time values) = option_map (λ e. write_event e time (views values.items)) (under defined.schemas handle)
-action_asked defined (WriteTyped handle time values) = option_map (λ s. write_type (slot_of s) (entry_in s) time (views values.items)) (under defined.types handle)
+action_asked defined (WriteTyped handle time values) = option_map (λ s. write_type (slot_of s) (entry_in s) time (views values.items))
+    (under defined.types handle)
 action_asked defined (InternString text) = Some (intern_string (string_bytes text))
 action_asked defined (InternStack frames) = Some (intern_stack frames.items)
 action_asked defined (StringPool entries) = Some (write_string_pool (map pool_text_of entries.items))

@@ -22,4 +22,5 @@ status_with status differs = if differs then 1 else status
 -- where the script is at fault, and with 1 where it is not
 abbrev pub Answers : Result Played PlayError → Answer → Type 0
 Answers (Ok played) answer = (answer.status ≡ 0) × (answer.output.items ≡ played.bytes.items) × (string_bytes answer.error_output ≡ string_bytes played.replies)
-Answers (Err error) answer = (answer.output.items ≡ []) × ((answer.status ≡ 2) ↔ IsOfScript error) × ((answer.status ≡ 1) ↔ (IsOfScript error → ⊥)) × (answer.status ≤ 2)
+Answers (Err error) answer = (answer.output.items ≡ []) × ((answer.status ≡ 2) ↔ IsOfScript error) × ((answer.status ≡ 1) ↔ (IsOfScript error → ⊥))
+    × (answer.status ≤ 2)

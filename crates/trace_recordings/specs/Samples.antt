@@ -53,7 +53,8 @@ entry_in Options = entries.options_entry
 entry_in Wide = entries.wide
 
 abbrev pub samples : List Sample
-samples = FastSlot ∷ Poll ∷ Texts ∷ Stacks ∷ Annotated ∷ LastSlot ∷ ByName ∷ Dynamic ∷ PollAgain ∷ PollAnnotated ∷ SlotClash ∷ AlsoByName ∷ Nameless ∷ Numbers ∷ Borrowed ∷ Options ∷ Wide ∷ []
+samples = FastSlot ∷ Poll ∷ Texts ∷ Stacks ∷ Annotated ∷ LastSlot ∷ ByName ∷ Dynamic ∷ PollAgain ∷ PollAnnotated ∷ SlotClash ∷ AlsoByName ∷ Nameless
+    ∷ Numbers ∷ Borrowed ∷ Options ∷ Wide ∷ []
 
 -- a sample has this slot and this schema
 abbrev pub is_sample : ℕ → Entry → Sample → Bool

@@ -31,7 +31,8 @@ IsPair byte text = decode_of text ≡ Ok (byte ∷ [])
 abbrev pub AreDigitsOf : List ℕ → List ℕ → Type 0
 AreDigitsOf [] text = ⊥
 AreDigitsOf (byte ∷ []) text = IsPair byte text
-AreDigitsOf (byte ∷ (next ∷ bytes)) text = (pair : List ℕ) × (rest : List ℕ) × IsPair byte pair × ((text ≡ pair ++ rest) ⊎ (text ≡ pair ++ codes " " ++ rest)) × AreDigitsOf (next ∷ bytes) rest
+AreDigitsOf (byte ∷ (next ∷ bytes)) text = (pair : List ℕ) × (rest : List ℕ) × IsPair byte pair
+    × ((text ≡ pair ++ rest) ⊎ (text ≡ pair ++ codes " " ++ rest)) × AreDigitsOf (next ∷ bytes) rest
 
 -- the line is empty, or begins with `#`
 abbrev pub is_silent : List ℕ → Bool

@@ -78,10 +78,12 @@ numbers_entry = bare_schema (codes "Numbers") (field (codes "byte") types.U8 ∷
     ∷ field (codes "flag") types.Bool ∷ [])
 
 abbrev pub options_entry : Entry
-options_entry = bare_schema (codes "Options") (field (codes "byte") types.OptionalU8 ∷ field (codes "short") types.OptionalU16 ∷ field (codes "word") types.OptionalU32
+options_entry = bare_schema (codes "Options") (field (codes "byte") types.OptionalU8
+    ∷ field (codes "short") types.OptionalU16 ∷ field (codes "word") types.OptionalU32
     ∷ field (codes "long") types.OptionalVarint ∷ field (codes "signed") types.OptionalI64 ∷ field (codes "real") types.OptionalF64
     ∷ field (codes "flag") types.OptionalBool ∷ field (codes "text") types.OptionalString ∷ field (codes "blob") types.OptionalBytes
-    ∷ field (codes "frames") types.OptionalStackFrames ∷ field (codes "label") types.OptionalPooledString ∷ field (codes "stack") types.OptionalPooledStackFrames
+    ∷ field (codes "frames") types.OptionalStackFrames ∷ field (codes "label") types.OptionalPooledString
+    ∷ field (codes "stack") types.OptionalPooledStackFrames
     ∷ field (codes "pairs") types.OptionalStringMap ∷ [])
 
 abbrev pub wide : Entry
