@@ -5,8 +5,8 @@ mod UnknownIdTexts
 mod AppendedParts
 mod DumpLemmas
 mod SendsLemmas
-mod Placing
-mod Gathering
+mod DumpPlaces
+mod HeldLines
 mod EventLines
 mod RawPairs
 mod StatusLemmas

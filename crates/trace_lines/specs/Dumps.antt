@@ -9,10 +9,27 @@ use Rattle.dial9_trace_format.specs.Decoding.{StartsWith}
 use Rattle.dial9_trace_format.specs.Sinks.{events_of}
 use Rattle.trace_lines.specs.Lines.{line, item_line, first_line, no_header_line, whole_line, stopped_line, conflict_line}
 use Rattle.trace_lines.specs.ResolvedLines.{event_lines}
-use Rattle.trace_lines.specs.declared.dump.Form.{Form}
-use Rattle.trace_lines.specs.declared.dump.Form.TheVariants.{Frames, Events}
+use Rattle.trace_lines.specs.declared.dump.DumpForm.{DumpForm}
+use Rattle.trace_lines.specs.declared.dump.DumpForm.TheVariants.{Frames, Events}
 use Rattle.trace_lines.specs.declared.dump.Reader.{Reader}
 use Rattle.trace_lines.specs.declared.dump.Reader.TheVariants.{Owned, Borrowed}
+
+-- what the program ends with: where the trace is whole, where no header stands, where it stops inside, at a conflict of schemas, and
+-- where memory, the input or the output failed
+abbrev pub whole_status : ℕ
+whole_status = 0
+
+abbrev pub no_header_status : ℕ
+no_header_status = 1
+
+abbrev pub stopped_status : ℕ
+stopped_status = 2
+
+abbrev pub conflict_status : ℕ
+conflict_status = 3
+
+abbrev pub failed_status : ℕ
+failed_status = 4
 
 -- which kind a reader is
 abbrev pub kind_of : Reader → Kind
@@ -20,47 +37,48 @@ kind_of Owned = owned_reader
 kind_of Borrowed = borrowed
 
 -- which reader a dump is of: where events are resolved, that of borrowed values
-abbrev pub reader_of : Form → Kind
-reader_of (Frames reader) = kind_of reader
-reader_of Events = borrowed
+abbrev pub kind_of_form : DumpForm → Kind
+kind_of_form (Frames reader) = kind_of reader
+kind_of_form Events = borrowed
 
 -- the line of each item
 abbrev pub item_lines : List Item → List ℕ
 item_lines shown = flat_map (λ i. line (item_line i)) shown
 
 -- the lines of frames that are read one after another, in a state and with pools: of each item, or of each event, resolved
-abbrev pub frame_lines : Form → Grammar → Pools → List Frame → List ℕ
+abbrev pub frame_lines : DumpForm → Grammar → Pools → List Frame → List ℕ
 frame_lines (Frames reader) g p frames = item_lines (items frames)
 frame_lines Events g p frames = event_lines (events_of g p frames)
 
 -- The last line and the status, where the longest run over bytes of a size ends before the rest. A place is told by the
 -- bytes before it: before the rest, or after the schema that differs from what its wire id stands for.
 abbrev pub IsEnd : Kind → ℕ → Grammar → List ℕ → Ending → ℕ → List ℕ → Type 0
-IsEnd k size last rest Whole status text = (status ≡ 0) × (text ≡ whole_line)
-IsEnd k size last rest Stopped status text = (status ≡ 2) × (text ≡ stopped_line (size - length rest))
+IsEnd k size last rest Whole status text = (status ≡ whole_status) × (text ≡ whole_line)
+IsEnd k size last rest Stopped status text = (status ≡ stopped_status) × (text ≡ stopped_line (size - length rest))
 IsEnd k size last rest Conflict status text =
-    (id : ℕ) × (shape : Shape) × (after : List ℕ) × Begins k last rest (Schema id shape) after × (status ≡ 3) × (text ≡ conflict_line (size - length after) id)
+    (id : ℕ) × (shape : Shape) × (after : List ℕ) × Begins k last rest (Schema id shape) after × (status ≡ conflict_status)
+    × (text ≡ conflict_line (size - length after) id)
 
 -- the lines after the first, of bytes that end an input of a size, in a state and with pools: those of the longest run of the
 -- reader, and of its end
-pub record IsDumpFrom (form : Form) (g : Grammar) (p : Pools) (size : ℕ) (bytes : List ℕ) (status : ℕ) (text : List ℕ) : Type 0 where
+pub record IsDumpFrom (form : DumpForm) (g : Grammar) (p : Pools) (size : ℕ) (bytes : List ℕ) (status : ℕ) (text : List ℕ) : Type 0 where
   pub frames : List Frame
   pub rest : List ℕ
   pub end : Ending
   pub last : Grammar
-  pub longest : IsLongest (reader_of form) g bytes frames rest end last
+  pub longest : IsLongest (kind_of_form form) g bytes frames rest end last
   pub last_line : List ℕ
-  pub ends : IsEnd (reader_of form) size last rest end status last_line
+  pub ends : IsEnd (kind_of_form form) size last rest end status last_line
   pub text_is : text ≡ frame_lines form g p frames ++ line last_line
 
 -- the dump of an input that does not begin with a header
 pub record IsNoDump (input : List ℕ) (status : ℕ) (text : List ℕ) : Type 0 where
   pub no_header : (version : ℕ) → StartsWith input version → ⊥
-  pub status_is : status ≡ 1
+  pub status_is : status ≡ no_header_status
   pub text_is : text ≡ line no_header_line
 
 -- the dump of a stream: its version, and the lines of what stands after its header
-pub record IsStreamDump (form : Form) (input : List ℕ) (status : ℕ) (text : List ℕ) : Type 0 where
+pub record IsStreamDump (form : DumpForm) (input : List ℕ) (status : ℕ) (text : List ℕ) : Type 0 where
   pub version : ℕ
   pub header : StartsWith input version
   pub lines : List ℕ
@@ -68,11 +86,11 @@ pub record IsStreamDump (form : Form) (input : List ℕ) (status : ℕ) (text : 
   pub text_is : text ≡ line (first_line version) ++ lines
 
 -- the dump of any input in a form
-abbrev pub IsDumpAs : Form → List ℕ → ℕ → List ℕ → Type 0
+abbrev pub IsDumpAs : DumpForm → List ℕ → ℕ → List ℕ → Type 0
 IsDumpAs form input status text = IsNoDump input status text ⊎ IsStreamDump form input status text
 
 -- the form of a dump where events are resolved, or not
-abbrev pub form_by : Bool → Form
+abbrev pub form_by : Bool → DumpForm
 form_by false = Frames Owned
 form_by true = Events
 
@@ -81,7 +99,7 @@ abbrev pub IsDump : Bool → List ℕ → ℕ → List ℕ → Type 0
 IsDump resolve = IsDumpAs (form_by resolve)
 
 -- bytes that the dump of an input in a form begins with
-pub record BeginsDumpAs (form : Form) (input : List ℕ) (written : List ℕ) : Type 0 where
+pub record BeginsDumpAs (form : DumpForm) (input : List ℕ) (written : List ℕ) : Type 0 where
   pub status : ℕ
   pub following : List ℕ
   pub is : IsDumpAs form input status (written ++ following)

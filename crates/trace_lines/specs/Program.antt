@@ -6,7 +6,7 @@ use Rattle.std.specs.declared.io.Error.{Error}
 use Rattle.std.specs.declared.io.ErrorKind.{ErrorKind}
 use Rattle.std.specs.declared.io.ErrorKind.TheVariants.{InvalidData}
 use Rattle.trace_values.specs.Sending.{Account, Took}
-use Rattle.trace_lines.specs.Dumps.{IsDump, BeginsDump}
+use Rattle.trace_lines.specs.Dumps.{failed_status, IsDump, BeginsDump}
 use Rattle.trace_lines.specs.declared.program.Task.{Task}
 use Rattle.trace_lines.specs.declared.program.Task.TheVariants.{Dump, Resolve, Usage, Fail}
 
@@ -43,6 +43,6 @@ DumpsFront resolve remaining old new = (bytes : List ℕ) → remaining ≡ Some
 -- what is told beside the dump: how to call the program, that it failed, or nothing
 abbrev pub message_for : Task → ℕ → List ℕ
 message_for Usage status = codes "usage: tracedump [--resolve]\n"
-message_for Resolve status = if status == 4 then codes "tracedump: failed\n" else []
-message_for Dump status = if status == 4 then codes "tracedump: failed\n" else []
-message_for Fail status = if status == 4 then codes "tracedump: failed\n" else []
+message_for Resolve status = if status == failed_status then codes "tracedump: failed\n" else []
+message_for Dump status = if status == failed_status then codes "tracedump: failed\n" else []
+message_for Fail status = if status == failed_status then codes "tracedump: failed\n" else []

@@ -4,8 +4,8 @@ use Rattle.std.specs.declared.alloc.Global.{Global}
 use Rattle.hex.specs.Hex.{decode_of}
 use Rattle.std.specs.Borrow.{Bor}
 use Rattle.trace_lines.specs.Dumps.{IsDumpAs}
-use Rattle.trace_lines.specs.declared.dump.Form.{Form}
-use Rattle.trace_lines.specs.declared.dump.Form.TheVariants.{Frames, Events}
+use Rattle.trace_lines.specs.declared.dump.DumpForm.{DumpForm}
+use Rattle.trace_lines.specs.declared.dump.DumpForm.TheVariants.{Frames, Events}
 use Rattle.trace_lines.specs.declared.dump.Reader.TheVariants.{Borrowed}
 use Rattle.trace_recordings.specs.declared.findings.Findings.{Findings}
 use Rattle.trace_recordings.specs.declared.findings.PartFinding.{PartFinding}
@@ -22,7 +22,7 @@ use Rattle.trace_recordings.specs.Scripts.{IsScript}
 use Rattle.trace_recordings.specs.Sinks.{IsSinkText}
 
 -- the trace has a dump, and no difference is told exactly where the recorded lines are that dump
-abbrev pub ShowsDump : Form → List ℕ → List ℕ → PartFinding → Type 0
+abbrev pub ShowsDump : DumpForm → List ℕ → List ℕ → PartFinding → Type 0
 ShowsDump form trace lines Absent = ⊥
 ShowsDump form trace lines (LeftOut name) = ⊥
 ShowsDump form trace lines (Compared differences) = (status : ℕ) × (text : List ℕ) × IsDumpAs form trace status text

@@ -34,10 +34,20 @@ AreDigitsOf (byte ∷ []) text = IsPair byte text
 AreDigitsOf (byte ∷ (next ∷ bytes)) text = (pair : List ℕ) × (rest : List ℕ) × IsPair byte pair
     × ((text ≡ pair ++ rest) ⊎ (text ≡ pair ++ codes " " ++ rest)) × AreDigitsOf (next ∷ bytes) rest
 
+-- characters by their bytes
+abbrev pub number_sign : ℕ
+number_sign = 35
+
+abbrev pub line_feed : ℕ
+line_feed = 10
+
+abbrev pub carriage_return : ℕ
+carriage_return = 13
+
 -- the line is empty, or begins with `#`
 abbrev pub is_silent : List ℕ → Bool
 is_silent [] = true
-is_silent (b ∷ bs) = b == 35
+is_silent (b ∷ bs) = b == number_sign
 
 -- the word by which a line of the call begins
 abbrev pub word_of : ScriptCall → List ℕ
@@ -82,7 +92,7 @@ SayEach (line ∷ lines) (call ∷ calls) = Says call line × SayEach lines call
 
 -- the lines of a text
 abbrev pub lines_of : List ℕ → List (List ℕ)
-lines_of text = slice_split (λ b. b == 10) text
+lines_of text = slice_split (λ b. b == line_feed) text
 
 -- the lines of the text say the calls
 unfoldable pub IsScript : List ScriptCall → List ℕ → Type 0
@@ -114,7 +124,7 @@ pub record IsBrokenAt (text : List ℕ) (error : ScriptError) : Type 0 where
 
 -- the last byte of the line is a carriage return
 abbrev pub EndsWithReturn : List ℕ → Type 0
-EndsWithReturn line = slice_get line (length line - 1) ≡ Some 13
+EndsWithReturn line = slice_get line (length line - 1) ≡ Some carriage_return
 
 -- the first line of the text, and what stands after it
 abbrev pub IsFirstLine : List ℕ → List ℕ → Option (List ℕ) → Type 0

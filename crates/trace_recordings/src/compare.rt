@@ -5,7 +5,7 @@ ghost use Rattle.trace_recordings.specs.Comparisons.{ended};
 
 use std::alloc::{AllocError, Global};
 
-/// Tells by what found bytes differ from the recorded ones, where they do. An error where a growth was refused.
+/// Tells by what found bytes differ from the recorded ones, where they do. `AllocError` where a growth was refused.
 pub fn bytes_difference(
     alloc: Global,
     recorded: &[u8],
@@ -20,7 +20,7 @@ pub fn bytes_difference(
 }
 
 /// Tells by what found lines differ from the recorded ones, where they do. Each found line has its line feed, and the last
-/// recorded one lacks it. An error where a growth was refused.
+/// recorded one lacks it. `AllocError` where a growth was refused.
 pub fn lines_difference(
     alloc: Global,
     recorded: &str,

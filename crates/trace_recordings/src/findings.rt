@@ -10,7 +10,7 @@ use crate::recording::{Calls, Readings, Recording};
 use crate::sink::sink_lines;
 use hex::FromHexError;
 use std::alloc::{AllocError, Global};
-use trace_lines::dump::{FAILED, Form, Reader, dump_as};
+use trace_lines::dump::{FAILED, DumpForm, Reader, dump_as};
 
 // By what name to speak of the lines of a sink.
 const SINK_NAME: &str = "what a sink is given";
@@ -40,11 +40,11 @@ pub struct Findings {
 }
 
 /// Plays the script of a recording, dumps its trace, by each reader and with resolved events, and shows its events to a sink, and compares
-/// what comes of it with the recording. Where the recorded bytes cannot be read that is told as a difference of the dump. An error where a growth
-/// was refused, by whichever of these.
+/// what comes of it with the recording. Where the recorded bytes cannot be read that is told as a difference of the dump. `AllocError` where a
+/// growth was refused, by whichever of these.
 pub fn findings_of(alloc: Global, recording: Recording<'_>) -> Result<Findings, AllocError>
     ensures script { IfOk result (λ f. WhereRead recording.entry (λ trace. ShowsScript trace recording.entry.calls f.script)) }
-    ensures dump { IfOk result (λ f. WhereRead recording.entry (λ trace. ShowsDump (Form.Frames Reader.Owned) trace recording.entry.dump.now f.dump)) }
+    ensures dump { IfOk result (λ f. WhereRead recording.entry (λ trace. ShowsDump (DumpForm.Frames Reader.Owned) trace recording.entry.dump.now f.dump)) }
     ensures borrowed { IfOk result (λ f. WhereRead recording.entry
         (λ trace. ShowsBorrowed trace recording.entry.dump.now recording.entry.readings f.borrowed)) }
     ensures resolved { IfOk result (λ f. WhereRead recording.entry (λ trace. ShowsResolved trace recording.entry.readings f.resolved)) }
@@ -54,7 +54,7 @@ pub fn findings_of(alloc: Global, recording: Recording<'_>) -> Result<Findings, 
     match hex::decode(alloc, recording.bytes) {
         Ok(trace) => Ok(Findings {
             script: script_outcome(alloc, recording.calls, &trace)?,
-            dump: dump_outcome(alloc, recording.dump, &trace, Form::Frames(Reader::Owned))?,
+            dump: dump_outcome(alloc, recording.dump, &trace, DumpForm::Frames(Reader::Owned))?,
             borrowed: borrowed_outcome(alloc, recording.dump, recording.readings, &trace)?,
             resolved: resolved_outcome(alloc, recording.readings, &trace)?,
             sink: sink_outcome(alloc, recording.readings, &trace)?,
@@ -135,7 +135,7 @@ fn borrowed_outcome(
     match readings {
         Some(readings) => {
             let lines = readings.borrowed.unwrap_or(lines);
-            dump_outcome(alloc, lines, trace, Form::Frames(Reader::Borrowed))
+            dump_outcome(alloc, lines, trace, DumpForm::Frames(Reader::Borrowed))
         }
         None => Ok(PartFinding::Absent),
     }
@@ -150,7 +150,7 @@ fn resolved_outcome(
     ensures { IfOk result (ShowsResolved trace.now readings.entry) }
 {
     match readings {
-        Some(readings) => dump_outcome(alloc, readings.resolved, trace, Form::Events),
+        Some(readings) => dump_outcome(alloc, readings.resolved, trace, DumpForm::Events),
         None => Ok(PartFinding::Absent),
     }
 }
@@ -176,7 +176,7 @@ fn dump_outcome(
     alloc: Global,
     lines: &str,
     trace: &[u8],
-    form: Form,
+    form: DumpForm,
 ) -> Result<PartFinding, AllocError>
     ensures { IfOk result (ShowsDump form trace.now lines.now) }
 {
@@ -189,11 +189,11 @@ fn dump_outcome(
 }
 
 // By what name to speak of a dump.
-fn dump_name(form: Form) -> &'static str {
+fn dump_name(form: DumpForm) -> &'static str {
     match form {
-        Form::Frames(Reader::Owned) => "the dump",
-        Form::Frames(Reader::Borrowed) => "the borrowed dump",
-        Form::Events => "the resolved dump",
+        DumpForm::Frames(Reader::Owned) => "the dump",
+        DumpForm::Frames(Reader::Borrowed) => "the borrowed dump",
+        DumpForm::Events => "the resolved dump",
     }
 }
 

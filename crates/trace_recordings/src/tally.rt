@@ -47,7 +47,7 @@ impl SetTally {
         }
     }
 
-    /// Counts a recording. An error where a growth was refused: parts of it may be counted then.
+    /// Counts a recording. `AllocError` where a growth was refused: parts of it may be counted then.
     pub fn add(&mut self, findings: &Findings) -> Result<(), AllocError>
         ensures recordings { OnOk result (self.new.recordings ≡ counted_up self.old.recordings 1) }
         ensures scripts { OnOk result (seen_in self.new.scripts ≡ with_outcome findings.now.script (seen_in self.old.scripts)) }

@@ -18,11 +18,15 @@ spent Never = Never
 spent (Once refusal) = Never
 spent (Always refusal) = Always refusal
 
+-- how many bytes the array holds
+abbrev pub room : ℕ
+room = 1024
+
 -- after how many bytes no byte is accepted: at the place where it fails, or where its room ends
 abbrev pub end_by : Failing → ℕ → ℕ
-end_by Never place = 1024
-end_by (Once refusal) place = min place 1024
-end_by (Always refusal) place = min place 1024
+end_by Never place = room
+end_by (Once refusal) place = min place room
+end_by (Always refusal) place = min place room
 
 abbrev pub end_of : Manner → ℕ
 end_of manner = end_by manner.failing manner.place

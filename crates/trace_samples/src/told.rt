@@ -25,13 +25,14 @@ pub struct Told {
 impl Model for Told {
     ghost use Rattle.std.specs.Prelude.{take, drop, ◌≤◌};
     ghost use Rattle.trace_samples.specs.Telling.{Teller};
+    ghost use Rattle.trace_samples.specs.Manners.{room};
 
     ghost Value = { Teller };
 
     ghost view = { λ t. let bytes = take t.length t.buffer in
         record { bytes = bytes; faults = t.faults; waiting = drop t.handed bytes; manner = t.manner } };
 
-    ghost invariant = { λ t. (t.handed ≤ t.length) × (t.length ≤ 1024) };
+    ghost invariant = { λ t. (t.handed ≤ t.length) × (t.length ≤ room) };
 }
 
 impl TraceWrite for Told {

@@ -1,5 +1,5 @@
 -- A sink that counts events.
-use Rattle.std.specs.Prelude.{◌≡◌, ◌+◌, List, [], length, Result, Ok, Err}
+use Rattle.std.specs.Prelude.{◌≡◌, ◌+◌, ◌-◌, ◌^◌, List, [], length, Result, Ok, Err}
 use Rattle.dial9_trace_format.specs.Words.{DecoderState, Goes, rest_of, borrowed, Frame, ShownEvent, events_of}
 use Rattle.user_words.specs.declared.tally.Tally.{Tally}
 use Rattle.user_words.specs.declared.tally.Full.{Full}
@@ -7,7 +7,7 @@ use Rattle.user_words.specs.declared.tally.Full.{Full}
 -- one more, unless no more can be counted
 abbrev pub tallies : Tally → ShownEvent → Result (Unit {0}) Full → Tally → Type 0
 tallies s e (Ok u) t = t.count ≡ s.count + 1
-tallies s e (Err f) t = (s.count ≡ 18446744073709551615) × (t ≡ s)
+tallies s e (Err f) t = (s.count ≡ 2 ^ 64 - 1) × (t ≡ s)
 
 -- the frames to the end were read, and their events counted
 pub record TalliesAll (old new : DecoderState) (s t : Tally) : Type 0 where

@@ -10,7 +10,7 @@ use trace_values::types::FieldType;
 use trace_wire::schema::FieldDef;
 use trace_writer::event::is_field;
 
-/// The definitions of fields of these names and types, in order. The one error is want of memory.
+/// The definitions of fields of these names and types, in order. `AllocError` where a growth was refused.
 pub(crate) fn definitions(
     alloc: Global,
     fields: &[(&str, FieldType)],
