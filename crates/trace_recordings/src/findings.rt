@@ -10,7 +10,7 @@ use crate::recording::{Calls, Readings, Recording};
 use crate::sink::sink_lines;
 use hex::FromHexError;
 use std::alloc::{AllocError, Global};
-use trace_lines::dump::{FAILED, DumpForm, Reader, dump_as};
+use trace_lines::dump::{DumpForm, FAILED, Reader, dump_as};
 
 // By what name to speak of the lines of a sink.
 const SINK_NAME: &str = "what a sink is given";
@@ -54,7 +54,12 @@ pub fn findings_of(alloc: Global, recording: Recording<'_>) -> Result<Findings, 
     match hex::decode(alloc, recording.bytes) {
         Ok(trace) => Ok(Findings {
             script: script_outcome(alloc, recording.calls, &trace)?,
-            dump: dump_outcome(alloc, recording.dump, &trace, DumpForm::Frames(Reader::Owned))?,
+            dump: dump_outcome(
+                alloc,
+                recording.dump,
+                &trace,
+                DumpForm::Frames(Reader::Owned),
+            )?,
             borrowed: borrowed_outcome(alloc, recording.dump, recording.readings, &trace)?,
             resolved: resolved_outcome(alloc, recording.readings, &trace)?,
             sink: sink_outcome(alloc, recording.readings, &trace)?,
