@@ -8,7 +8,7 @@ ghost use Rattle.trace_lines.specs.Lines.{escaped_byte, quoted_byte, quoted, add
 
 use std::alloc::AllocError;
 
-/// Appends bytes in quotes (docs/FORMAT.md, "Dumps").
+/// Appends bytes in quotes (docs/FORMAT.md, "Dumps"). `AllocError` where a growth was refused.
 #[tactic(auto, unfolding(crate::specs::Lines::quoted))]
 pub fn push_quoted(out: &mut String, bytes: &[u8]) -> Result<(), AllocError>
     ensures { AppendsText (quoted bytes.now) out.old out.new result }
@@ -20,7 +20,7 @@ pub fn push_quoted(out: &mut String, bytes: &[u8]) -> Result<(), AllocError>
     out.push('"')
 }
 
-/// Appends addresses in brackets (docs/FORMAT.md, "Dumps").
+/// Appends addresses in brackets (docs/FORMAT.md, "Dumps"). `AllocError` where a growth was refused.
 #[tactic(auto, unfolding(crate::specs::Lines::address_list))]
 pub fn push_addresses(out: &mut String, addresses: &[u64]) -> Result<(), AllocError>
     ensures { AppendsText (address_list addresses.now) out.old out.new result }
@@ -35,7 +35,7 @@ pub fn push_addresses(out: &mut String, addresses: &[u64]) -> Result<(), AllocEr
     out.push(']')
 }
 
-/// Appends the sixteen hexadecimal digits of a number.
+/// Appends the sixteen hexadecimal digits of a number. `AllocError` where a growth was refused.
 #[tactic(auto, using(crate::proofs::HexDigits::padded_16))]
 pub fn push_sixteen_digits(out: &mut String, number: u64) -> Result<(), AllocError>
     ensures { AppendsText (sixteen_digits number) out.old out.new result }

@@ -11,9 +11,8 @@ use crate::text::{push_addresses, push_quoted, push_sixteen_digits};
 use std::alloc::AllocError;
 use trace_values::types::FieldValue;
 
-/// Appends a value: the name of its kind, and what it holds (docs/FORMAT.md, "Dumps").
+/// Appends a value: the name of its kind, and what it holds (docs/FORMAT.md, "Dumps"). `AllocError` where a growth was refused.
 #[cycle(value)]
-#[tactic(auto, using(crate::proofs::ValueTexts::value_text_StackFrames, crate::proofs::ValueTexts::value_text_PooledStackFrames, crate::proofs::ValueTexts::value_text_StringMap, crate::proofs::ValueTexts::value_text_List, crate::proofs::ValueTexts::value_text_Map))]
 pub fn push_value(out: &mut String, value: &FieldValue) -> Result<(), AllocError>
     ensures { AppendsText (value_text (view value.now)) out.old out.new result }
 {

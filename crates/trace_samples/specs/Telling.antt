@@ -7,9 +7,9 @@ use Rattle.trace_values.specs.declared.leb128.faults.Faults.{Faults}
 use Rattle.trace_values.specs.declared.leb128.faults.Faults.TheVariants.{NoFault}
 use Rattle.trace_values.specs.Sending.{Account}
 use Rattle.trace_samples.specs.declared.manner.Manner.{Manner}
-use Rattle.trace_samples.specs.declared.manner.Refusal.{Refusal}
-use Rattle.trace_samples.specs.declared.manner.Refusal.TheVariants as refusals
-use Rattle.trace_samples.specs.Manners.{next_refusal, spent, end_of}
+use Rattle.trace_samples.specs.declared.manner.Fault.{Fault}
+use Rattle.trace_samples.specs.declared.manner.Fault.TheVariants as fault_forms
+use Rattle.trace_samples.specs.Manners.{next_fault, spent, end_of}
 
 -- the bytes that it accepted, its faults, those of the bytes that it has not handed on yet, and how it goes on
 pub record Teller : Type 0 where
@@ -30,22 +30,22 @@ new_teller manner = record { bytes = []; faults = NoFault; waiting = []; manner 
 abbrev pub next_count : Teller → ℕ → ℕ
 next_count t size = min size (min t.manner.step (end_of t.manner - length t.bytes))
 
--- an answer of `send` is this refusal
-abbrev pub IsRefusal : Refusal → Result ℕ Error → Type 0
-IsRefusal refusals.Zero result = result ≡ Ok 0
-IsRefusal (refusals.Error kind) (Ok n) = ⊥
-IsRefusal (refusals.Error kind) (Err e) = error_kind e ≡ kind
+-- an answer of `send` is this fault
+abbrev pub AnswersFault : Fault → Result ℕ Error → Type 0
+AnswersFault fault_forms.Zero result = result ≡ Ok 0
+AnswersFault (fault_forms.Error kind) (Ok n) = ⊥
+AnswersFault (fault_forms.Error kind) (Err e) = error_kind e ≡ kind
 
--- the manner after a refusal
+-- the manner after a fault
 abbrev pub manner_spent : Manner → Manner
 manner_spent manner = record manner { failing = spent manner.failing }
 
 -- What `send` answers by the manner: nothing of an empty piece; else as many bytes as it accepts next; where that is none,
--- the next refusal, which is then spent.
+-- the next fault, which is then spent.
 pub record Follows (old : Teller) (piece : List ℕ) (result : Result ℕ Error) (new : Teller) : Type 0 where
   pub nothing : piece ≡ [] → (result ≡ Ok 0) × (new.manner ≡ old.manner)
   pub accepts : next_count old (length piece) ≢ 0 → (result ≡ Ok (next_count old (length piece))) × (new.manner ≡ old.manner)
-  pub refuses : piece ≢ [] → next_count old (length piece) ≡ 0 → IsRefusal (next_refusal old.manner.failing) result × (new.manner ≡ manner_spent old.manner)
+  pub fails : piece ≢ [] → next_count old (length piece) ≡ 0 → AnswersFault (next_fault old.manner.failing) result × (new.manner ≡ manner_spent old.manner)
 
 -- what `settle` answers by the manner
 abbrev pub FollowsSettling : {A : Type 0} → Option ErrorKind → Result A Error → Type 0

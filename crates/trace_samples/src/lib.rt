@@ -5,5 +5,5 @@ pub mod events;
 pub mod manner;
 pub mod told;
 
-pub use manner::{Failing, Manner, Refusal};
+pub use manner::{Failing, Fault, Manner};
 pub use told::Told;

@@ -9,7 +9,7 @@ pub const ROOM: usize = 1_024;
 
 /// What `send` answers where it accepts nothing.
 #[derive(Clone, Copy, PartialEq, Eq, Debug)]
-pub enum Refusal {
+pub enum Fault {
     /// The answer 0.
     Zero,
     /// An error of this kind.
@@ -22,26 +22,26 @@ pub enum Failing {
     /// Not at all.
     Never,
     /// At the first call there; then it accepts bytes again.
-    Once(Refusal),
+    Once(Fault),
     /// At each call there.
-    Always(Refusal),
+    Always(Fault),
 }
 
 impl Failing {
-    ghost use Rattle.trace_samples.specs.Manners.{next_refusal, spent};
+    ghost use Rattle.trace_samples.specs.Manners.{next_fault, spent};
 
     /// What `send` answers next where it accepts nothing: 0 where it never fails by its manner, but its room ends.
-    pub fn next_refusal(self) -> Refusal
-        ensures { result ≡ next_refusal self }
+    pub fn next_fault(self) -> Fault
+        ensures { result ≡ next_fault self }
     {
         match self {
-            Failing::Never => Refusal::Zero,
-            Failing::Once(refusal) => refusal,
-            Failing::Always(refusal) => refusal,
+            Failing::Never => Fault::Zero,
+            Failing::Once(fault) => fault,
+            Failing::Always(fault) => fault,
         }
     }
 
-    /// How it fails after a refusal.
+    /// How it fails after a fault.
     pub fn spent(self) -> Failing
         ensures { result ≡ spent self }
     {

@@ -2,10 +2,10 @@
 
 ghost use Rattle.std.specs.Prelude.{◌≡◌, ◌≢◌, ◌≤◌, ◌↔◌, [], IfOk, IsTrue, length};
 ghost use Rattle.trace_values.specs.Sending.{Took, Holds, Settles, taken, send_faults, settle_faults};
-ghost use Rattle.trace_samples.specs.Telling.{all_told, new_teller, Follows, FollowsSettling, IsRefusal, manner_spent};
-ghost use Rattle.trace_samples.specs.Manners.{next_refusal};
+ghost use Rattle.trace_samples.specs.Telling.{all_told, new_teller, Follows, FollowsSettling, AnswersFault, manner_spent};
+ghost use Rattle.trace_samples.specs.Manners.{next_fault};
 
-use crate::manner::{Manner, ROOM, Refusal};
+use crate::manner::{Fault, Manner, ROOM};
 use std::io;
 use std::io::ErrorKind;
 use std::marker::Model;
@@ -51,7 +51,7 @@ impl TraceWrite for Told {
         let room = self.manner.end().saturating_sub(self.length);
         let count = piece.len().min(self.manner.step.min(room));
         if count == 0 {
-            return self.refuse(piece);
+            return self.fail(piece);
         }
         self.buffer[self.length..self.length + count].copy_from_slice(&piece[..count]);
         self.length += count;
@@ -109,21 +109,21 @@ impl Told {
         self.handed == self.length
     }
 
-    // Refuses a piece that is not empty by the manner, and tells the fault.
-    fn refuse(&mut self, piece: &[u8]) -> io::Result<usize>
+    // Takes nothing of a piece that is not empty, as the manner says, and tells the fault.
+    fn fail(&mut self, piece: &[u8]) -> io::Result<usize>
         requires { length piece.now ≢ 0 }
         ensures took { Took (all_told self.old) (all_told self.new) (taken result piece.now) (send_faults result piece.now) }
-        ensures refuses { IsRefusal (next_refusal self.old.manner.failing) result }
+        ensures fails { AnswersFault (next_fault self.old.manner.failing) result }
         ensures same { self.new ≡ record self.old { faults = self.new.faults; manner = manner_spent self.old.manner } }
     {
-        let refusal = self.manner.failing.next_refusal();
+        let fault = self.manner.failing.next_fault();
         self.manner.failing = self.manner.failing.spent();
-        match refusal {
-            Refusal::Zero => {
+        match fault {
+            Fault::Zero => {
                 self.faults.add(ErrorKind::WriteZero);
                 Ok(0)
             }
-            Refusal::Error(kind) => {
+            Fault::Error(kind) => {
                 self.faults.add(kind);
                 Err(io::Error::from(kind))
             }

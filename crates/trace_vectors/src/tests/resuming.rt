@@ -13,7 +13,7 @@ use std::alloc::Global;
 use std::io::ErrorKind;
 use std::process::Abort;
 use std::test::Fail;
-use trace_samples::{Manner, Refusal, Told};
+use trace_samples::{Fault, Manner, Told};
 use trace_values::leb128::Faults;
 
 /// A frame is read with owned values, one with borrowed values, one by an iterator, and one is shown to a sink, which refuses it.
@@ -61,7 +61,7 @@ fn put_event(alloc: Global, encoder: &mut Encoder<Told>) -> Result<(), EncodeErr
 
 /// The writer that failed inside that event.
 fn torn(rt: &impl Abort, alloc: Global) -> Result<Told, EncodeError> {
-    let manner = breaking(3, 22, Refusal::Error(ErrorKind::BrokenPipe));
+    let manner = breaking(3, 22, Fault::Error(ErrorKind::BrokenPipe));
     let mut broken = encoder_to(alloc, manner)?;
     let fault = put_event(alloc, &mut broken).err();
     check_refused(rt, fault, EncodeError::Writer(ErrorKind::BrokenPipe));
@@ -139,7 +139,7 @@ fn fail_and_go_on(
 
 #[test]
 fn a_failed_encoder_begins_anew(rt: HostRuntime) -> Result<(), Fail> {
-    let manner = breaking(3, 8, Refusal::Error(ErrorKind::BrokenPipe));
+    let manner = breaking(3, 8, Fault::Error(ErrorKind::BrokenPipe));
     let mut encoder = encoder_to(rt.alloc(), manner)?;
     fail_and_go_on(&rt, rt.alloc(), &mut encoder)?;
     let told = encoder.into_inner();
@@ -153,7 +153,7 @@ fn check_not_reset(
     alloc: Global,
     encoder: &mut Encoder<Told>,
 ) -> Result<(), EncodeError> {
-    let manner = breaking(3, 3, Refusal::Zero);
+    let manner = breaking(3, 3, Fault::Zero);
     let refused = encoder.reset_to(Told::new(manner)).err();
     check_refused(rt, refused, EncodeError::Writer(ErrorKind::WriteZero));
     put_event(alloc, encoder)

@@ -2,14 +2,14 @@
 
 use std::io::ErrorKind;
 use std::process::Abort;
-use trace_samples::{Failing, Manner, Refusal, Told};
+use trace_samples::{Failing, Fault, Manner, Told};
 use trace_values::leb128::Faults;
 
 /// Ways to fail: an error, an interrupted write, and the answer 0.
-pub const KINDS: [Refusal; 3] = [
-    Refusal::Error(ErrorKind::BrokenPipe),
-    Refusal::Error(ErrorKind::Interrupted),
-    Refusal::Zero,
+pub const KINDS: [Fault; 3] = [
+    Fault::Error(ErrorKind::BrokenPipe),
+    Fault::Error(ErrorKind::Interrupted),
+    Fault::Zero,
 ];
 
 /// Takes so many bytes at a time, and never fails.
@@ -21,11 +21,11 @@ pub fn stepping(step: usize) -> Manner {
 }
 
 /// Takes so many bytes at a time, and fails so at this place.
-pub fn breaking(step: usize, place: usize, refusal: Refusal) -> Manner {
+pub fn breaking(step: usize, place: usize, fault: Fault) -> Manner {
     Manner {
         step,
         place,
-        failing: Failing::Always(refusal),
+        failing: Failing::Always(fault),
         settling: None,
     }
 }
@@ -33,7 +33,7 @@ pub fn breaking(step: usize, place: usize, refusal: Refusal) -> Manner {
 /// The same, but failing once.
 pub fn once(manner: Manner) -> Manner {
     Manner {
-        failing: Failing::Once(manner.failing.next_refusal()),
+        failing: Failing::Once(manner.failing.next_fault()),
         ..manner
     }
 }
@@ -48,9 +48,9 @@ pub fn unsettling(kind: ErrorKind) -> Manner {
 
 /// The kind of the fault by which `send` fails.
 pub fn kind_of(manner: Manner) -> ErrorKind {
-    match manner.failing.next_refusal() {
-        Refusal::Zero => ErrorKind::WriteZero,
-        Refusal::Error(kind) => kind,
+    match manner.failing.next_fault() {
+        Fault::Zero => ErrorKind::WriteZero,
+        Fault::Error(kind) => kind,
     }
 }
 
