@@ -7,7 +7,7 @@ use Rattle.std.specs.BTreeMap.{insert_entry, is_at}
 use Rattle.std.specs.Map.{lookup}
 use Rattle.trace_values.specs.declared.leb128.error.EncodeError.{EncodeError}
 use Rattle.trace_values.specs.declared.leb128.error.EncodeError.TheVariants as errors
-use Rattle.trace_values.specs.IdTexts.{pool_text, stack_text}
+use Rattle.trace_values.specs.IdTexts.{string_id_text, stack_id_text}
 use Rattle.trace_values.specs.Values.{owned_reader}
 use Rattle.trace_values.specs.View.{views}
 use Rattle.trace_wire.specs.Runs.{Item}
@@ -70,8 +70,8 @@ refusal_text errors.Failed = codes "refused 11 Failed"
 abbrev pub answer_text : Reply → List ℕ
 answer_text Done = codes "done"
 answer_text (WireId id) = codes "wire " ++ decimal id.0
-answer_text (Text id) = pool_text id.0
-answer_text (Stack id) = stack_text id.0
+answer_text (Text id) = string_id_text id.0
+answer_text (Stack id) = stack_id_text id.0
 answer_text (Refused e) = refusal_text e
 
 -- a reply, and `-` where the encoder was not called

@@ -28,7 +28,7 @@ pub fn call_of(alloc: Global, line: &[u8]) -> Result<ScriptCall, LineError>
     ensures says { IfOk result (λ call. Says call line.now) }
     ensures unsaid { IfErr result (λ _. SaysNoWord line.now) }
 {
-    match word_of(line) {
+    match one_word_call(line) {
         Some(call) => Ok(call),
         None => parts_of(alloc, line),
     }
@@ -36,7 +36,7 @@ pub fn call_of(alloc: Global, line: &[u8]) -> Result<ScriptCall, LineError>
 
 // What a line asks for that says nothing, or is one word.
 #[tactic(auto, using(crate::proofs::ScriptLemmas::no_word))]
-fn word_of(line: &[u8]) -> Option<ScriptCall>
+fn one_word_call(line: &[u8]) -> Option<ScriptCall>
     ensures says { IfSome result (λ call. Says call line.now) }
     ensures unsaid { IsNone result → SaysNoWord line.now }
 {

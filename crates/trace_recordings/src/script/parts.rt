@@ -89,12 +89,12 @@ pub fn leading_type(line: &[u8]) -> Result<(FieldType, &[u8]), LineError>
         .unwrap_or(line.len());
     let (name, rest) = line.split_at(end);
     let name = str::from_utf8(name).map_err(|_| LineError::FieldType)?;
-    let field_type = type_of(name).ok_or(LineError::FieldType)?;
+    let field_type = type_named(name).ok_or(LineError::FieldType)?;
     Ok((field_type, rest))
 }
 
 // The type that has the name.
-fn type_of(name: &str) -> Option<FieldType>
+fn type_named(name: &str) -> Option<FieldType>
     ensures { IfSome result (λ t. name.now ≡ type_name t) }
 {
     match name {
