@@ -55,7 +55,7 @@ as_many (l ∷ lines) [] each = absurd each
 as_many (l ∷ lines) (c ∷ calls) each = omega (arith, as_many lines calls each.1)
 
 -- the next line is broken
-pub broken_at : (text rest line : List ℕ) (more : Option (List ℕ)) (calls : List ScriptCall) (error : ScriptError) → SayFront text calls rest → IsFirstLine rest line more → error.line ≡ counted_up (length calls) 1 → (error.fault ≢ Memory → SaysNoWord line) → IsBrokenAt text error
+pub broken_at : (text rest line : List ℕ) (more : Option (List ℕ)) (calls : List ScriptCall) (error : ScriptError) → SayFront text calls rest → IsFirstLine rest line more → error.line ≡ counted_up (length calls) 1 → (error.error ≢ Memory → SaysNoWord line) → IsBrokenAt text error
 broken_at text rest line None calls error front first n u = record {
   before = front.front;
   calls = calls;

@@ -36,13 +36,13 @@ use Rattle.trace_recordings.specs.declared.player.Player.{Player}
 use Rattle.trace_recordings.specs.declared.typed.Sample.{Sample}
 use Rattle.trace_recordings.specs.declared.player.PlayError.{PlayError}
 use Rattle.trace_recordings.specs.declared.player.PlayError.TheVariants as plays
-use Rattle.trace_recordings.specs.declared.script.line_error.LineError.TheVariants as faults
+use Rattle.trace_recordings.specs.declared.script.line_error.LineError.TheVariants as line_errors
 use Rattle.trace_recordings.specs.Samples.{entry_in, is_sample, slot_of}
 use Rattle.trace_recordings.specs.Scripts.{IsScript}
 
 -- the script is at fault, and not want of memory
 abbrev pub IsOfScript : PlayError → Type 0
-IsOfScript (plays.Script error) = error.fault ≢ faults.Memory
+IsOfScript (plays.Script error) = error.error ≢ line_errors.Memory
 IsOfScript (plays.LeftOut line call) = ⊤
 IsOfScript (plays.Unknown line handle) = ⊤
 IsOfScript (plays.Unheld line) = ⊤

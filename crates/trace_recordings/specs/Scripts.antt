@@ -111,7 +111,7 @@ abbrev pub SaysNoWord : List ℕ → Type 0
 SaysNoWord line = (call : ScriptCall) → IsWord call → Says call line → ⊥
 
 -- The lines before that of the error say calls. Reading stopped at its line, which is not silent and no call of one word, where
--- memory was not the fault. Lines count from 1.
+-- memory was not wanting. Lines count from 1.
 pub record IsBrokenAt (text : List ℕ) (error : ScriptError) : Type 0 where
   pub before : List (List ℕ)
   pub calls : List ScriptCall
@@ -119,7 +119,7 @@ pub record IsBrokenAt (text : List ℕ) (error : ScriptError) : Type 0 where
   pub broken : List ℕ
   pub after : List (List ℕ)
   pub parts : lines_of text ≡ before ++ broken ∷ after
-  pub unsaid : error.fault ≢ Memory → SaysNoWord broken
+  pub unsaid : error.error ≢ Memory → SaysNoWord broken
   pub counts : error.line ≡ counted_up (length before) 1
 
 -- the last byte of the line is a carriage return

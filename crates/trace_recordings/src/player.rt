@@ -65,7 +65,7 @@ impl PlayError {
         ensures { IsTrue result ↔ IsOfScript self.now }
     {
         match self {
-            PlayError::Script(error) => error.fault != LineError::Memory,
+            PlayError::Script(error) => error.error != LineError::Memory,
             PlayError::LeftOut { .. }
             | PlayError::Unknown { .. }
             | PlayError::Unheld { .. }
@@ -233,7 +233,7 @@ impl Player {
             ScriptCall::Nothing => Ok(()),
             ScriptCall::Define { handle, definition } => {
                 self.define(*handle, definition)?;
-                self.add_reply(LineReply::Silent)
+                self.push_reply_line(LineReply::Silent)
             }
             ScriptCall::DefineType {
                 handle,
@@ -241,33 +241,33 @@ impl Player {
                 definition,
             } => {
                 self.define_type(line, *handle, *slot, definition)?;
-                self.add_reply(LineReply::Silent)
+                self.push_reply_line(LineReply::Silent)
             }
             ScriptCall::Raw { bytes } => {
                 self.played.bytes.extend_from_slice(bytes)?;
-                self.add_reply(LineReply::Silent)
+                self.push_reply_line(LineReply::Silent)
             }
             ScriptCall::Bare => {
                 self.played.bytes.clear();
-                self.add_reply(LineReply::Silent)
+                self.push_reply_line(LineReply::Silent)
             }
             ScriptCall::Reset => {
                 let reply = self.reset()?;
-                self.add_reply(reply)
+                self.push_reply_line(reply)
             }
             ScriptCall::Resume => {
                 let reply = self.resume(line)?;
-                self.add_reply(reply)
+                self.push_reply_line(reply)
             }
             other => {
                 let reply = self.ask(line, other)?;
-                self.add_reply(LineReply::Replied(reply))
+                self.push_reply_line(LineReply::Replied(reply))
             }
         }
     }
 
     // Appends the line of a reply to the others.
-    fn add_reply(&mut self, reply: LineReply) -> Result<(), PlayError>
+    fn push_reply_line(&mut self, reply: LineReply) -> Result<(), PlayError>
         ensures added { OnOk result (playing_of self.new ≡ with_reply reply (playing_of self.old)) }
         ensures refused { IfErr result IsOfPlayer }
     {
@@ -344,7 +344,7 @@ impl Player {
         ensures refused { IfErr result (RefusesCall (playing_of self.old) line call.now) }
     {
         let before = self.encoder.as_inner().len();
-        let reply = reply_of(self.alloc, &mut self.encoder, &self.handles, line, call)?;
+        let reply = make_on_encoder(self.alloc, &mut self.encoder, &self.handles, line, call)?;
         let sent = &self.encoder.as_inner()[before..];
         self.played.bytes.extend_from_slice(sent)?;
         Ok(reply)
@@ -383,7 +383,7 @@ fn encoder_after(
 
 // Makes the call of a line on an encoder.
 #[tactic(auto, using(crate::proofs::RefusalLemmas::unheld))]
-fn reply_of(
+fn make_on_encoder(
     alloc: Global,
     encoder: &mut Encoder,
     handles: &Handles,
@@ -435,7 +435,7 @@ fn reply_of(
     }
 }
 
-// The reply of a call that answers nothing else.
+/// The reply of a call that answers no value.
 pub fn done_reply(answer: Result<(), EncodeError>) -> Reply
     ensures { result ≡ reply_from (λ _. Reply.Done) answer }
 {
@@ -551,7 +551,7 @@ fn sample_under(
     }
 }
 
-// The fault of a line whose values no event has.
+// The error of a line whose values no event has.
 fn unheld_on(line: usize, unheld: Unheld) -> PlayError
     ensures { IsUnheld line result }
 {

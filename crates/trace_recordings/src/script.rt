@@ -24,15 +24,15 @@ use thiserror::Error;
 
 /// Which line of a script cannot be read, and why. Lines count from 1.
 #[derive(Clone, Copy, Debug, PartialEq, Eq, Error)]
-#[error("line {line}: {fault}")]
+#[error("line {line}: {error}")]
 pub struct ScriptError {
     pub line: usize,
-    pub fault: LineError,
+    pub error: LineError,
 }
 
 /// Reads a script: what each line asks for, in their order. A line ends with a line feed, which the last one may lack.
 ///
-/// Refuses the first line that cannot be read, with its number and the fault that `call_of` tells: `CarriageReturn` in its place where a
+/// Refuses the first line that cannot be read, with its number and the error that `call_of` tells: `CarriageReturn` in its place where a
 /// carriage return ends the line, but for `Memory`. `Memory` too where there is no room for what the line asks for.
 #[tactic(auto, using(crate::proofs::ScriptLemmas::one_more, crate::proofs::ScriptLemmas::the_last))]
 pub fn script_of(alloc: Global, text: &[u8]) -> Result<Vec<ScriptCall>, ScriptError>
@@ -69,40 +69,40 @@ fn first_line(text: &[u8]) -> (&[u8], Option<&[u8]>)
 fn push_call(alloc: Global, calls: &mut Vec<ScriptCall>, line: &[u8]) -> Result<(), ScriptError>
     ensures gains { OnOk result (GainsCall calls.old.items calls.new.items line.now) }
     ensures counts { IfErr result (λ error. error.line ≡ counted_up (length calls.old.items) 1) }
-    ensures unsaid { IfErr result (λ error. error.fault ≢ Memory → SaysNoWord line.now) }
+    ensures unsaid { IfErr result (λ error. error.error ≢ Memory → SaysNoWord line.now) }
 {
     let before = calls.len();
     match call_of(alloc, line) {
         Ok(call) => match calls.push(call) {
             Ok(()) => Ok(()),
-            Err(_) => Err(fault_on(before, LineError::Memory)),
+            Err(_) => Err(error_on(before, LineError::Memory)),
         },
-        Err(fault) => Err(fault_on(before, named(line, fault))),
+        Err(error) => Err(error_on(before, named(line, error))),
     }
 }
 
-// A fault in the line after this many.
-fn fault_on(before: usize, fault: LineError) -> ScriptError
+// An error in the line after this many.
+fn error_on(before: usize, error: LineError) -> ScriptError
     ensures line { result.line ≡ counted_up before 1 }
-    ensures fault { result.fault ≡ fault }
+    ensures error { result.error ≡ error }
 {
     ScriptError {
         line: before.saturating_add(1),
-        fault,
+        error,
     }
 }
 
-// By what name to tell the fault of a line: a carriage return at its end is told before all but want of memory.
-fn named(line: &[u8], fault: LineError) -> LineError
-    ensures memory { fault ≡ Memory → result ≡ Memory }
-    ensures returned { fault ≢ Memory → EndsWithReturn line.now → result ≡ CarriageReturn }
-    ensures other { (EndsWithReturn line.now → ⊥) → result ≡ fault }
+// By what name to tell the error of a line: a carriage return at its end is told before all but want of memory.
+fn named(line: &[u8], error: LineError) -> LineError
+    ensures memory { error ≡ Memory → result ≡ Memory }
+    ensures returned { error ≢ Memory → EndsWithReturn line.now → result ≡ CarriageReturn }
+    ensures other { (EndsWithReturn line.now → ⊥) → result ≡ error }
 {
-    if fault == LineError::Memory {
-        return fault;
+    if error == LineError::Memory {
+        return error;
     }
     match line.last() {
         Some(b'\r') => LineError::CarriageReturn,
-        _ => fault,
+        _ => error,
     }
 }

@@ -20,7 +20,7 @@ use trace_values::types::FieldValue;
 
 /// Reads what a line asks for. A line that is empty or begins with `#`, and one that is `reset`, `resume` or `bare`, is never refused.
 ///
-/// Of any other: `ScriptCall` where its first word is that of no call with parts; else the first fault of its parts, from left to right.
+/// Of any other: `ScriptCall` where its first word is that of no call with parts; else the first error of its parts, from left to right.
 /// `Mark(' ')` where a part has no space before it; `Number` of a handle, a slot or a time; what `definition_of`, `leading_value`,
 /// `leading_name`, `leading_addresses`, `pool_texts` and `pool_stacks` refuse of what the call has; `Hexadecimal` of bytes; `Excess` where
 /// more stands after a handle, a text or addresses that end the call. `Memory` where a growth was refused.

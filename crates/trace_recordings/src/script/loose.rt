@@ -82,7 +82,7 @@ pub fn addresses(alloc: Global, line: &[u8]) -> Result<(Vec<u64>, &[u8]), LineEr
 
 /// The value at the front, which has at most this many values around its innermost one, and the rest.
 ///
-/// The first fault from left to right: `TooLarge` of an id of a text or a stack which, as `number` reads it, is above 4,294,967,295; `Utf8` of a
+/// The first error from left to right: `TooLarge` of an id of a text or a stack which, as `number` reads it, is above 4,294,967,295; `Utf8` of a
 /// text that is not UTF-8; `Text` and `Addresses` as `text` and `addresses` tell them; `Mark('=')` where a pair has none after its key; `Depth`
 /// of a list or a map that has as many around it as are allowed; `Value` where no value begins, or neither a comma nor the closing mark stands
 /// after an item or a pair. `Memory` where a growth was refused.

@@ -23,7 +23,7 @@ pub struct PoolStack {
     pub frames: Vec<u64>,
 }
 
-/// Entries of a string pool up to the end of the line. The first fault: of each entry `Mark(' ')` before its id, `Number` where no id stands,
+/// Entries of a string pool up to the end of the line. The first error: of each entry `Mark(' ')` before its id, `Number` where no id stands,
 /// `TooLarge` where it is above 4,294,967,295, `Mark(':')` after it, and `Text` as `leading_text` tells it. `Memory` where a growth was refused.
 pub fn pool_texts(alloc: Global, line: &[u8]) -> Result<Vec<PoolText>, LineError>
     ensures { IfOk result (λ v. line.now ≡ flat_map pool_text_text v.items) }
