@@ -35,7 +35,7 @@ pub record ShowsPlayed (trace : List ℕ) (calls : Calls) (differences : List (S
   pub played : IsPlayed calls.script.now bytes replies
   pub none_told : (differences ≡ []) ↔ ((trace ≡ bytes) × (ended calls.replies.now ≡ replies))
 
--- the script was not played, by a fault of its own, and that is told
+-- the script was not played, by an error of its own, and that is told
 abbrev pub ShowsRefused : Calls → List (String Global) → Type 0
 ShowsRefused calls differences = (error : PlayError) × IsOfScript error × RefusesScript calls.script.now error × (differences ≢ [])
 

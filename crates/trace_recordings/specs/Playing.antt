@@ -40,7 +40,7 @@ use Rattle.trace_recordings.specs.declared.script.line_error.LineError.TheVarian
 use Rattle.trace_recordings.specs.Samples.{entry_in, is_sample, slot_of}
 use Rattle.trace_recordings.specs.Scripts.{IsScript}
 
--- the script is at fault, and not want of memory
+-- the error is the script's, and not want of memory
 abbrev pub IsOfScript : PlayError → Type 0
 IsOfScript (plays.Script error) = error.error ≢ line_errors.Memory
 IsOfScript (plays.LeftOut line call) = ⊤

@@ -19,7 +19,7 @@ abbrev pub status_with : ℕ → Bool → ℕ
 status_with status differs = if differs then 1 else status
 
 -- a script that was played ends with status 0, its trace and its replies; one that was not has no trace, and ends with status 2
--- where the script is at fault, and with 1 where it is not
+-- where the error is the script's, and with 1 where it is not
 abbrev pub Answers : Result Played PlayError → Answer → Type 0
 Answers (Ok played) answer = (answer.status ≡ 0) × (answer.output.items ≡ played.bytes.items) × (string_bytes answer.error_output ≡ string_bytes played.replies)
 Answers (Err error) answer = (answer.output.items ≡ []) × ((answer.status ≡ 2) ↔ IsOfScript error) × ((answer.status ≡ 1) ↔ (IsOfScript error → ⊥))

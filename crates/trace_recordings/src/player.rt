@@ -60,7 +60,7 @@ pub enum PlayError {
 }
 
 impl PlayError {
-    /// Whether the script is at fault, and not want of memory.
+    /// Whether the error is the script's, and not want of memory.
     pub fn is_of_script(&self) -> bool
         ensures { IsTrue result ↔ IsOfScript self.now }
     {
@@ -435,7 +435,7 @@ fn make_on_encoder(
     }
 }
 
-/// The reply of a call that answers no value.
+/// The reply of a call that answers no value: `Done`, or `Refused` with the error.
 pub fn done_reply(answer: Result<(), EncodeError>) -> Reply
     ensures { result ≡ reply_from (λ _. Reply.Done) answer }
 {
