@@ -2,7 +2,7 @@
 
 use crate::tests::calls::decoder_of;
 use crate::tests::mixed::{gives_borrowed, gives_nothing, gives_owned};
-use crate::tests::sinks::is_fault;
+use crate::tests::sinks::is_error;
 use crate::tests::traces::{CONFLICT, ONE_EVENT};
 use dial9_trace_format::codec::{PoolEntryRef, StackPoolEntryRef, WireTypeId};
 use dial9_trace_format::decoder::{
@@ -45,7 +45,7 @@ fn text_that_only_owned_frames_have(rt: HostRuntime) -> Result<(), Fail> {
 /// The iterator gives the conflict of wire id 256.
 fn gives_conflict(decoder: &mut Decoder<'_>) -> bool {
     match step(decoder) {
-        Some(Err(fault)) => is_fault(&fault, &DecodeErrorKind::Conflict(WireTypeId(256)), 40),
+        Some(Err(error)) => is_error(&error, &DecodeErrorKind::Conflict(WireTypeId(256)), 40),
         _ => false,
     }
 }

@@ -2,7 +2,7 @@
 
 use crate::tests::calls::{all_of, decoder_of, next_one};
 use crate::tests::checks::{count_all, is_ended, reads_all};
-use crate::tests::sinks::is_fault;
+use crate::tests::sinks::is_error;
 use crate::tests::traces::{CONFLICT, HEADER};
 use dial9_trace_format::codec::WireTypeId;
 use dial9_trace_format::decoder::{DecodeErrorKind, DecodedFrame, Decoder};
@@ -77,7 +77,7 @@ fn gives_that_event(decoder: &mut Decoder<'_>) -> Result<bool, Fail> {
 fn gives_conflict(decoder: &mut Decoder<'_>) -> bool {
     let is_told = match decoder.next_frame() {
         Ok(_) => false,
-        Err(fault) => is_fault(&fault, &DecodeErrorKind::Conflict(WireTypeId(256)), 40),
+        Err(error) => is_error(&error, &DecodeErrorKind::Conflict(WireTypeId(256)), 40),
     };
     is_told && Decoder::position(decoder) == 40
 }

@@ -25,13 +25,13 @@ impl<'a> EventVisitor<'a> for Seen {
     }
 }
 
-/// The fault is this one, at this place.
-pub fn is_fault(fault: &DecodeError, kind: &DecodeErrorKind, place: usize) -> bool {
-    fault.kind == *kind && fault.pos == place
+/// The error is this one, at this place.
+pub fn is_error(error: &DecodeError, kind: &DecodeErrorKind, place: usize) -> bool {
+    error.kind == *kind && error.pos == place
 }
 
-/// A visitor is shown events, and then this fault comes at this place.
-fn tells_fault<'a>(
+/// A visitor is shown events, and then this error comes at this place.
+fn tells_error<'a>(
     decoder: &mut Decoder<'a>,
     visitor: &mut Seen,
     kind: &DecodeErrorKind,
@@ -39,11 +39,11 @@ fn tells_fault<'a>(
 ) -> bool {
     match decoder.for_each_event(visitor) {
         Ok(()) => false,
-        Err(fault) => is_fault(&fault, kind, place),
+        Err(error) => is_error(&error, kind, place),
     }
 }
 
-/// A visitor is shown so many events, whose times are so much together, and then this fault comes at this place, where the decoder stays.
+/// A visitor is shown so many events, whose times are so much together, and then this error comes at this place, where the decoder stays.
 pub fn is_shown(
     decoder: &mut Decoder<'_>,
     seen: (u64, u64),
@@ -54,7 +54,7 @@ pub fn is_shown(
         events: 0,
         times: 0,
     };
-    let is_told = tells_fault(decoder, &mut visitor, kind, place);
+    let is_told = tells_error(decoder, &mut visitor, kind, place);
     let is_placed = Decoder::position(decoder) == place;
     is_told && is_placed && (visitor.events, visitor.times) == seen
 }

@@ -1,4 +1,4 @@
-//! The texts of faults.
+//! The texts of errors.
 
 use dial9_trace_format::codec::WireTypeId;
 use dial9_trace_format::decoder::{DecodeError, DecodeErrorKind, TryForEachError};
@@ -70,17 +70,17 @@ const REGISTERING: [(RegisterError, &str); 2] = [
 ];
 
 #[test]
-fn faults_of_encoding(rt: HostRuntime) -> Result<(), Fail> {
-    for (fault, text) in ENCODING {
-        assert!(rt; format!(in rt.alloc(); "{fault}")?.as_str() == text);
+fn errors_of_encoding(rt: HostRuntime) -> Result<(), Fail> {
+    for (error, text) in ENCODING {
+        assert!(rt; format!(in rt.alloc(); "{error}")?.as_str() == text);
     }
     Ok(())
 }
 
 #[test]
-fn faults_of_registering(rt: HostRuntime) -> Result<(), Fail> {
-    for (fault, text) in REGISTERING {
-        assert!(rt; format!(in rt.alloc(); "{fault}")?.as_str() == text);
+fn errors_of_registering(rt: HostRuntime) -> Result<(), Fail> {
+    for (error, text) in REGISTERING {
+        assert!(rt; format!(in rt.alloc(); "{error}")?.as_str() == text);
     }
     Ok(())
 }
@@ -101,7 +101,7 @@ const SHOWING: [(TryForEachError<EncodeError>, &str); 2] = [
 ];
 
 #[test]
-fn faults_of_decoding_and_showing(rt: HostRuntime) -> Result<(), Fail> {
+fn errors_of_decoding_and_showing(rt: HostRuntime) -> Result<(), Fail> {
     for (kind, text) in DECODING {
         assert!(rt; format!(in rt.alloc(); "{kind}")?.as_str() == text);
     }
@@ -112,7 +112,7 @@ fn faults_of_decoding_and_showing(rt: HostRuntime) -> Result<(), Fail> {
 }
 
 #[test]
-fn faults_of_resolving(rt: HostRuntime) -> Result<(), Fail> {
+fn errors_of_resolving(rt: HostRuntime) -> Result<(), Fail> {
     let cases = [
         (
             DeserError::UnknownString(InternedString::from_raw(7)),
@@ -128,8 +128,8 @@ fn faults_of_resolving(rt: HostRuntime) -> Result<(), Fail> {
         ),
         (DeserError::OutOfMemory, "out of memory"),
     ];
-    for (fault, text) in cases {
-        assert!(rt; format!(in rt.alloc(); "{fault}")?.as_str() == text);
+    for (error, text) in cases {
+        assert!(rt; format!(in rt.alloc(); "{error}")?.as_str() == text);
     }
     Ok(())
 }
