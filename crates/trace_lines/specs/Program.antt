@@ -38,7 +38,7 @@ DumpsAll resolve remaining old new status = (bytes : List ℕ) → remaining ≡
 -- whatever came of it, nothing was written, or a front of the dump of all that the reader has left
 abbrev pub DumpsFront : Bool → Option (List ℕ) → Account → Account → Type 0
 DumpsFront resolve remaining old new = (bytes : List ℕ) → remaining ≡ Some bytes
-    → (written : List ℕ) × (kinds : List ErrorKind) × ((written ≡ []) ⊎ BeginsDump resolve bytes written) × Took old new written kinds
+    → (written : List ℕ) × (faults : List ErrorKind) × ((written ≡ []) ⊎ BeginsDump resolve bytes written) × Took old new written faults
 
 -- what is told beside the dump: how to call the program, that it failed, or nothing
 abbrev pub message_for : Task → ℕ → List ℕ

@@ -3,6 +3,7 @@
 ghost use Rattle.std.specs.Prelude.{◌≡◌, ◌≢◌, ◌<◌, false, get_or, List, ℕ, ◌++◌, length, IfOk, IfSome, codes};
 ghost use Rattle.std.specs.List.{flat_map};
 ghost use Rattle.trace_recordings.specs.declared.recording.RecordingError.TheVariants as errors;
+ghost use Rattle.trace_recordings.specs.Scripts.{line_feed};
 ghost use Rattle.trace_recordings.specs.Recordings.{borrowed_text, calls_text, making_text, readings_text, recording_lines, recording_text, IsFile};
 
 use std::alloc::{AllocError, AllocFailed, Global};
@@ -79,7 +80,7 @@ pub fn recordings_of(alloc: Global, file: &str) -> Result<Vec<Recording<'_>>, Re
 
 // Whether the first line of a text is empty.
 fn begins_empty(text: &str) -> bool
-    ensures { result ≡ false → get_or text.now 0 10 ≢ 10 }
+    ensures { result ≡ false → get_or text.now 0 line_feed ≢ line_feed }
 {
     match text.as_bytes() {
         [] => true,

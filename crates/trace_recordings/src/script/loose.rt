@@ -188,7 +188,7 @@ fn integer(line: &[u8]) -> (FieldValue, &[u8])
     }
 }
 
-// The pairs of a string map up to its closing brace, and the rest.
+// The pairs of a map of texts up to its closing brace, and the rest.
 fn text_pairs(alloc: Global, line: &[u8]) -> Result<(Vec<(Vec<u8>, Vec<u8>)>, &[u8]), LineError>
     ensures { Shortens line.now result }
 {

@@ -19,7 +19,7 @@ const TEXTS_FIELDS: [(&str, FieldType); 3] = [
     ("pairs", FieldType::StringMap),
 ];
 
-/// A text, bytes and a string map, of slot 7.
+/// A text, bytes and a map of texts, of slot 7.
 #[derive(Drop)]
 pub struct Texts {
     /// The time in nanoseconds.
