@@ -1,8 +1,9 @@
-use Rattle.std.proofs.Common.{lit<, ap, ◌∙◌}
+use Rattle.std.proofs.Common.{◌++◌, lit<, ap, codes, string_bytes, ◌∙◌}
 use Rattle.trace_values.specs.View.{view}
 use Rattle.trace_values.proofs.ListViews.{view_list, view_map}
 use Rattle.trace_values.proofs.ValueViews.{view_float, view_boolean, view_bytes, view_pooled_text, view_stack, view_pooled_stack, view_number, view_texts}
-use Rattle.trace_lines.proofs.AppendedParts.{in_three}
+use Rattle.trace_lines.specs.Lines.{value_text}
+use Rattle.trace_lines.proofs.AppendedParts.{in_three, listed_more, keyed}
 use Rattle.trace_lines.proofs.ValueTexts.{text_of_list, text_of_map, shown_as}
 use Rattle.trace_lines.proofs.value.+value.Goals as goal
 
@@ -41,3 +42,11 @@ push_list-returns t c = in_three c.push.result _ _ _ _ _ _ _ _ (lit< tt) (text_o
 
 pub push_map-returns : goal.push_map-returns
 push_map-returns t c = in_three c.push.result _ _ _ _ _ _ _ _ (lit< tt) (text_of_map (λ p. (view p.0, view p.1)) c.args.pairs.now) c.in_ok-push_str.ensures.bytes c.in_ok-push_pairs.ensures c.push.ensures.bytes
+
+pub push_items-loop-item-preserved : goal.push_items-loop-item-preserved
+push_items-loop-item-preserved t c = listed_more (λ v. value_text (view v)) (string_bytes c.push_value.new.out) (string_bytes c.loop-item.out) (string_bytes c.push.new.self) _ c.in-Some.others.now c.loop-item.item-index c.item-item.result c.loop-item-test.true c.item-item.is c.loop-item.invariant c.in_ok-push.ensures.bytes c.in_ok-push_value-2.ensures
+
+pub push_pairs-loop-pair-preserved : goal.push_pairs-loop-pair-preserved
+push_pairs-loop-pair-preserved t c =
+    let put = keyed (string_bytes c.push-in-loop-pair.new.self) _ _ _ (value_text (view c.pair-item.result.0)) (value_text (view c.pair-item.result.1)) c.in_ok-push_value-3.ensures c.in_ok-push-3.ensures.bytes c.in_ok-push_value-4.ensures in
+    listed_more (λ p. value_text (view p.0) ++ codes "=" ++ value_text (view p.1)) (string_bytes c.push_value-2.new.out) (string_bytes c.loop-pair.out) (string_bytes c.push-in-loop-pair.new.self) _ c.in-Some.others.now c.loop-pair.pair-index c.pair-item.result c.loop-pair-test.true c.pair-item.is c.loop-pair.invariant c.in_ok-push-2.ensures.bytes put
