@@ -5,6 +5,7 @@ pub mod dump;
 mod entries;
 mod lines;
 mod owning;
+mod plain;
 pub mod program;
 mod resolved;
 pub mod text;

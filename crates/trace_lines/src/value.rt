@@ -1,13 +1,18 @@
 //! Values as they stand in a line. Each function answers `AllocError` where a growth was refused.
 
-ghost use Rattle.std.specs.Prelude.{◌++◌, codes, map};
+ghost use Rattle.std.specs.Prelude.{◌++◌, codes};
 ghost use Rattle.std.specs.List.{join_by};
 ghost use Rattle.trace_values.specs.Reading.{values_to_items, values_to_pairs};
+ghost use Rattle.trace_values.specs.Values.{list, map, texts};
 ghost use Rattle.trace_values.specs.View.{view, views, pair_views, text_pairs_view};
 ghost use Rattle.trace_lines.specs.Appending.{AppendsText};
-ghost use Rattle.trace_lines.specs.Lines.{truth, pair_text, value_text, item_texts, pair_texts};
+ghost use Rattle.trace_lines.specs.Lines.{pair_text, value_text};
 
-use crate::text::{push_addresses, push_quoted, push_sixteen_digits};
+use crate::plain::{
+    push_bytes, push_float, push_integer, push_number, push_pooled_stack, push_pooled_text,
+    push_stack, push_text, push_truth,
+};
+use crate::text::push_quoted;
 use std::alloc::AllocError;
 use trace_values::types::FieldValue;
 
@@ -17,44 +22,38 @@ pub fn push_value(out: &mut String, value: &FieldValue) -> Result<(), AllocError
     ensures { AppendsText (value_text (view value.now)) out.old out.new result }
 {
     match value {
-        FieldValue::I64(number) => write!(out, "I64:{number}"),
-        FieldValue::F64(bits) => {
-            out.push_str("F64:0x")?;
-            push_sixteen_digits(out, *bits)
-        }
-        FieldValue::Bool(flag) => write!(out, "Bool:{flag}"),
-        FieldValue::String(text) => {
-            out.push_str("String:")?;
-            push_quoted(out, text.as_bytes())
-        }
-        FieldValue::Bytes(bytes) => {
-            out.push_str("Bytes:")?;
-            push_quoted(out, bytes)
-        }
-        FieldValue::PooledString(id) => write!(out, "PooledString:{id:?}"),
-        FieldValue::StackFrames(frames) => {
-            out.push_str("StackFrames:")?;
-            push_addresses(out, frames.as_slice())
-        }
-        FieldValue::PooledStackFrames(id) => write!(out, "PooledStackFrames:{id:?}"),
-        FieldValue::Varint(number) => write!(out, "Varint:{number}"),
-        FieldValue::StringMap(pairs) => {
-            out.push_str("StringMap:{")?;
-            push_text_pairs(out, pairs)?;
-            out.push('}')
-        }
-        FieldValue::List(items) => {
-            out.push_str("List:[")?;
-            push_items(out, items)?;
-            out.push(']')
-        }
-        FieldValue::Map(pairs) => {
-            out.push_str("Map:{")?;
-            push_pairs(out, pairs)?;
-            out.push('}')
-        }
+        FieldValue::I64(number) => push_integer(out, *number),
+        FieldValue::F64(bits) => push_float(out, *bits),
+        FieldValue::Bool(flag) => push_truth(out, *flag),
+        FieldValue::String(text) => push_text(out, text.as_bytes()),
+        FieldValue::Bytes(bytes) => push_bytes(out, bytes),
+        FieldValue::PooledString(id) => push_pooled_text(out, *id),
+        FieldValue::StackFrames(frames) => push_stack(out, frames.as_slice()),
+        FieldValue::PooledStackFrames(id) => push_pooled_stack(out, *id),
+        FieldValue::Varint(number) => push_number(out, *number),
+        FieldValue::StringMap(pairs) => push_texts(out, pairs),
+        FieldValue::List(items) => push_list(out, items),
+        FieldValue::Map(pairs) => push_map(out, pairs),
         FieldValue::None => out.push_str("None"),
     }
+}
+
+#[cycle(value)]
+fn push_list(out: &mut String, items: &[FieldValue]) -> Result<(), AllocError>
+    ensures { AppendsText (value_text (list (values_to_items (views items.now)))) out.old out.new result }
+{
+    out.push_str("List:[")?;
+    push_items(out, items)?;
+    out.push(']')
+}
+
+#[cycle(value)]
+fn push_map(out: &mut String, pairs: &[(FieldValue, FieldValue)]) -> Result<(), AllocError>
+    ensures { AppendsText (value_text (map (values_to_pairs (pair_views pairs.now)))) out.old out.new result }
+{
+    out.push_str("Map:{")?;
+    push_pairs(out, pairs)?;
+    out.push('}')
 }
 
 #[cycle(value)]
@@ -89,6 +88,14 @@ fn push_pairs(out: &mut String, pairs: &[(FieldValue, FieldValue)]) -> Result<()
         push_value(out, &pair.1)?;
     }
     Ok(())
+}
+
+fn push_texts(out: &mut String, pairs: &[(Vec<u8>, Vec<u8>)]) -> Result<(), AllocError>
+    ensures { AppendsText (value_text (texts (text_pairs_view pairs.now))) out.old out.new result }
+{
+    out.push_str("StringMap:{")?;
+    push_text_pairs(out, pairs)?;
+    out.push('}')
 }
 
 fn push_text_pairs(out: &mut String, pairs: &[(Vec<u8>, Vec<u8>)]) -> Result<(), AllocError>

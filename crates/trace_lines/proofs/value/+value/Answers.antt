@@ -1,21 +1,52 @@
-use Rattle.std.proofs.Common.{rules, lit<}
-use Rattle.trace_lines.proofs.AppendedParts.{in_two, in_three}
-use Rattle.trace_lines.proofs.ValueTexts.{value_text_StackFrames, value_text_PooledStackFrames, value_text_StringMap, value_text_List, value_text_Map}
+use Rattle.std.proofs.Common.{◌++◌, lit<, ap, codes, string_bytes, ◌∙◌}
+use Rattle.trace_values.specs.View.{view}
+use Rattle.trace_values.proofs.ListViews.{view_list, view_map}
+use Rattle.trace_values.proofs.ValueViews.{view_float, view_boolean, view_bytes, view_pooled_text, view_stack, view_pooled_stack, view_number, view_texts}
+use Rattle.trace_lines.specs.Lines.{value_text}
+use Rattle.trace_lines.proofs.AppendedParts.{in_three, listed_more, keyed}
+use Rattle.trace_lines.proofs.ValueTexts.{text_of_list, text_of_map, shown_as}
 use Rattle.trace_lines.proofs.value.+value.Goals as goal
 
-pub push_value-returns-in_ok-push_str-in-StackFrames :
-    goal.push_value-returns-in_ok-push_str-in-StackFrames
-push_value-returns-in_ok-push_str-in-StackFrames t c = rw c.in-StackFrames.is (in_two c.push_addresses.result _ _ _ _ _ _ (value_text_StackFrames c.in-StackFrames.frames) c.in_ok-push_str-in-StackFrames.ensures.bytes (rw c.as_slice.ensures at c.push_addresses.ensures))
+pub push_value-returns-in-F64 : goal.push_value-returns-in-F64
+push_value-returns-in-F64 t c = shown_as _ _ c.args.out.now c.push_float.new.out c.push_float.result (ap view c.in-F64.is ∙ view_float c.in-F64.bits) c.push_float.ensures
+
+pub push_value-returns-in-Bool : goal.push_value-returns-in-Bool
+push_value-returns-in-Bool t c = shown_as _ _ c.args.out.now c.push_truth.new.out c.push_truth.result (ap view c.in-Bool.is ∙ view_boolean c.in-Bool.flag) c.push_truth.ensures
+
+pub push_value-returns-in-Bytes : goal.push_value-returns-in-Bytes
+push_value-returns-in-Bytes t c = shown_as _ _ c.args.out.now c.push_bytes.new.out c.push_bytes.result (ap view c.in-Bytes.is ∙ view_bytes c.in-Bytes.bytes) (rw c.deref.ensures.value at c.push_bytes.ensures)
+
+pub push_value-returns-in-PooledString : goal.push_value-returns-in-PooledString
+push_value-returns-in-PooledString t c = shown_as _ _ c.args.out.now c.push_pooled_text.new.out c.push_pooled_text.result (ap view c.in-PooledString.is ∙ view_pooled_text c.in-PooledString.id) c.push_pooled_text.ensures
+
+pub push_value-returns-in-StackFrames : goal.push_value-returns-in-StackFrames
+push_value-returns-in-StackFrames t c = shown_as _ _ c.args.out.now c.push_stack.new.out c.push_stack.result (ap view c.in-StackFrames.is ∙ view_stack c.in-StackFrames.frames) (rw c.as_slice.ensures at c.push_stack.ensures)
 
 pub push_value-returns-in-PooledStackFrames : goal.push_value-returns-in-PooledStackFrames
-push_value-returns-in-PooledStackFrames t c = rw (c.in-PooledStackFrames.is, value_text_PooledStackFrames c.in-PooledStackFrames.id) (search rules)
+push_value-returns-in-PooledStackFrames t c = shown_as _ _ c.args.out.now c.push_pooled_stack.new.out c.push_pooled_stack.result (ap view c.in-PooledStackFrames.is ∙ view_pooled_stack c.in-PooledStackFrames.id) c.push_pooled_stack.ensures
 
-pub push_value-returns-in_ok-push_text_pairs-in-StringMap :
-    goal.push_value-returns-in_ok-push_text_pairs-in-StringMap
-push_value-returns-in_ok-push_text_pairs-in-StringMap t c = rw c.in-StringMap.is (in_three c.push.result _ _ _ _ _ _ _ _ (lit< tt) (value_text_StringMap c.in-StringMap.pairs) c.in_ok-push_str-in-StringMap.ensures.bytes (rw c.deref-in-StringMap.ensures.value at c.in_ok-push_text_pairs-in-StringMap.ensures) c.push.ensures.bytes)
+pub push_value-returns-in-Varint : goal.push_value-returns-in-Varint
+push_value-returns-in-Varint t c = shown_as _ _ c.args.out.now c.push_number.new.out c.push_number.result (ap view c.in-Varint.is ∙ view_number c.in-Varint.number) c.push_number.ensures
 
-pub push_value-returns-in_ok-push_items-in-List : goal.push_value-returns-in_ok-push_items-in-List
-push_value-returns-in_ok-push_items-in-List t c = rw c.in-List.is (in_three c.push-in-List.result _ _ _ _ _ _ _ _ (lit< tt) (value_text_List c.in-List.items) c.in_ok-push_str-in-List.ensures.bytes (rw c.deref-in-List.ensures.value at c.in_ok-push_items-in-List.ensures) c.push-in-List.ensures.bytes)
+pub push_value-returns-in-StringMap : goal.push_value-returns-in-StringMap
+push_value-returns-in-StringMap t c = shown_as _ _ c.args.out.now c.push_texts.new.out c.push_texts.result (ap view c.in-StringMap.is ∙ view_texts c.in-StringMap.pairs) (rw c.deref-in-StringMap.ensures.value at c.push_texts.ensures)
 
-pub push_value-returns-in_ok-push_pairs-in-Map : goal.push_value-returns-in_ok-push_pairs-in-Map
-push_value-returns-in_ok-push_pairs-in-Map t c = rw c.in-Map.is (in_three c.push-in-Map.result _ _ _ _ _ _ _ _ (lit< tt) (value_text_Map c.in-Map.pairs) c.in_ok-push_str-in-Map.ensures.bytes (rw c.deref-in-Map.ensures.value at c.in_ok-push_pairs-in-Map.ensures) c.push-in-Map.ensures.bytes)
+pub push_value-returns-in-List : goal.push_value-returns-in-List
+push_value-returns-in-List t c = shown_as _ _ c.args.out.now c.push_list.new.out c.push_list.result (ap view c.in-List.is ∙ view_list c.in-List.items) (rw c.deref-in-List.ensures.value at c.push_list.ensures)
+
+pub push_value-returns-in-Map : goal.push_value-returns-in-Map
+push_value-returns-in-Map t c = shown_as _ _ c.args.out.now c.push_map.new.out c.push_map.result (ap view c.in-Map.is ∙ view_map c.in-Map.pairs) (rw c.deref-in-Map.ensures.value at c.push_map.ensures)
+
+pub push_list-returns : goal.push_list-returns
+push_list-returns t c = in_three c.push.result _ _ _ _ _ _ _ _ (lit< tt) (text_of_list view c.args.items.now) c.in_ok-push_str.ensures.bytes c.in_ok-push_items.ensures c.push.ensures.bytes
+
+pub push_map-returns : goal.push_map-returns
+push_map-returns t c = in_three c.push.result _ _ _ _ _ _ _ _ (lit< tt) (text_of_map (λ p. (view p.0, view p.1)) c.args.pairs.now) c.in_ok-push_str.ensures.bytes c.in_ok-push_pairs.ensures c.push.ensures.bytes
+
+pub push_items-loop-item-preserved : goal.push_items-loop-item-preserved
+push_items-loop-item-preserved t c = listed_more (λ v. value_text (view v)) (string_bytes c.push_value.new.out) (string_bytes c.loop-item.out) (string_bytes c.push.new.self) _ c.in-Some.others.now c.loop-item.item-index c.item-item.result c.loop-item-test.true c.item-item.is c.loop-item.invariant c.in_ok-push.ensures.bytes c.in_ok-push_value-2.ensures
+
+pub push_pairs-loop-pair-preserved : goal.push_pairs-loop-pair-preserved
+push_pairs-loop-pair-preserved t c =
+    let put = keyed (string_bytes c.push-in-loop-pair.new.self) _ _ _ (value_text (view c.pair-item.result.0)) (value_text (view c.pair-item.result.1)) c.in_ok-push_value-3.ensures c.in_ok-push-3.ensures.bytes c.in_ok-push_value-4.ensures in
+    listed_more (λ p. value_text (view p.0) ++ codes "=" ++ value_text (view p.1)) (string_bytes c.push_value-2.new.out) (string_bytes c.loop-pair.out) (string_bytes c.push-in-loop-pair.new.self) _ c.in-Some.others.now c.loop-pair.pair-index c.pair-item.result c.loop-pair-test.true c.pair-item.is c.loop-pair.invariant c.in_ok-push-2.ensures.bytes put
