@@ -1,7 +1,13 @@
-use Rattle.std.proofs.Common.{rules, lit<}
-use Rattle.trace_lines.proofs.AppendedParts.{in_two, in_three}
-use Rattle.trace_lines.proofs.ValueTexts.{value_text_StackFrames, value_text_PooledStackFrames, value_text_StringMap, value_text_List, value_text_Map}
+use Rattle.std.proofs.Common.{List, ℕ, rules, lit<, ap, ◌∙◌}
+use Rattle.trace_values.specs.declared.types.field_value.FieldValue.{FieldValue}
+use Rattle.trace_values.specs.View.{view}
+use Rattle.trace_lines.specs.Lines.{value_text}
+use Rattle.trace_lines.proofs.AppendedParts.{in_one, in_two, in_three, none_appended}
+use Rattle.trace_lines.proofs.ValueTexts.{value_text_I64, value_text_F64, value_text_Bool, value_text_String, value_text_Bytes, value_text_PooledString, value_text_Varint, value_text_StackFrames, value_text_PooledStackFrames, value_text_StringMap, value_text_List, value_text_Map}
 use Rattle.trace_lines.proofs.value.+value.Goals as goal
+
+abbrev seen : FieldValue → List ℕ
+seen v = value_text (view v)
 
 pub push_value-returns-in_ok-push_str-in-StackFrames :
     goal.push_value-returns-in_ok-push_str-in-StackFrames
@@ -19,3 +25,84 @@ push_value-returns-in_ok-push_items-in-List t c = rw c.in-List.is (in_three c.pu
 
 pub push_value-returns-in_ok-push_pairs-in-Map : goal.push_value-returns-in_ok-push_pairs-in-Map
 push_value-returns-in_ok-push_pairs-in-Map t c = rw c.in-Map.is (in_three c.push-in-Map.result _ _ _ _ _ _ _ _ (lit< tt) (value_text_Map c.in-Map.pairs) c.in_ok-push_str-in-Map.ensures.bytes (rw c.deref-in-Map.ensures.value at c.in_ok-push_pairs-in-Map.ensures) c.push-in-Map.ensures.bytes)
+
+pub push_items-returns-in_err-push_value : goal.push_items-returns-in_err-push_value
+push_items-returns-in_err-push_value t c = none_appended c.from_residual.result _ c.from_residual.ensures.0
+
+pub push_items-returns-in_err-push : goal.push_items-returns-in_err-push
+push_items-returns-in_err-push t c = none_appended c.from_residual-in_err-push.result _ c.from_residual-in_err-push.ensures.0
+
+pub push_items-returns-in_err-push_value-2 : goal.push_items-returns-in_err-push_value-2
+push_items-returns-in_err-push_value-2 t c = none_appended c.from_residual-in_err-push_value-2.result _ c.from_residual-in_err-push_value-2.ensures.0
+
+pub push_pairs-returns-in_err-push_value : goal.push_pairs-returns-in_err-push_value
+push_pairs-returns-in_err-push_value t c = none_appended c.from_residual.result _ c.from_residual.ensures.0
+
+pub push_pairs-returns-in_err-push : goal.push_pairs-returns-in_err-push
+push_pairs-returns-in_err-push t c = none_appended c.from_residual-in_err-push.result _ c.from_residual-in_err-push.ensures.0
+
+pub push_pairs-returns-in_err-push_value-2 : goal.push_pairs-returns-in_err-push_value-2
+push_pairs-returns-in_err-push_value-2 t c = none_appended c.from_residual-in_err-push_value-2.result _ c.from_residual-in_err-push_value-2.ensures.0
+
+pub push_pairs-returns-in_err-push-2 : goal.push_pairs-returns-in_err-push-2
+push_pairs-returns-in_err-push-2 t c = none_appended c.from_residual-in_err-push-2.result _ c.from_residual-in_err-push-2.ensures.0
+
+pub push_pairs-returns-in_err-push_value-3 : goal.push_pairs-returns-in_err-push_value-3
+push_pairs-returns-in_err-push_value-3 t c = none_appended c.from_residual-in_err-push_value-3.result _ c.from_residual-in_err-push_value-3.ensures.0
+
+pub push_pairs-returns-in_err-push-3 : goal.push_pairs-returns-in_err-push-3
+push_pairs-returns-in_err-push-3 t c = none_appended c.from_residual-in_err-push-3.result _ c.from_residual-in_err-push-3.ensures.0
+
+pub push_pairs-returns-in_err-push_value-4 : goal.push_pairs-returns-in_err-push_value-4
+push_pairs-returns-in_err-push_value-4 t c = none_appended c.from_residual-in_err-push_value-4.result _ c.from_residual-in_err-push_value-4.ensures.0
+
+pub push_value-returns-in_err-push_str-in-F64 : goal.push_value-returns-in_err-push_str-in-F64
+push_value-returns-in_err-push_str-in-F64 t c = none_appended c.from_residual.result _ c.from_residual.ensures.0
+
+pub push_value-returns-in_err-push_str-in-String : goal.push_value-returns-in_err-push_str-in-String
+push_value-returns-in_err-push_str-in-String t c = none_appended c.from_residual-in_err-push_str-in-String.result _ c.from_residual-in_err-push_str-in-String.ensures.0
+
+pub push_value-returns-in_err-push_str-in-Bytes : goal.push_value-returns-in_err-push_str-in-Bytes
+push_value-returns-in_err-push_str-in-Bytes t c = none_appended c.from_residual-in_err-push_str-in-Bytes.result _ c.from_residual-in_err-push_str-in-Bytes.ensures.0
+
+pub push_value-returns-in_err-push_str-in-StackFrames : goal.push_value-returns-in_err-push_str-in-StackFrames
+push_value-returns-in_err-push_str-in-StackFrames t c = none_appended c.from_residual-in_err-push_str-in-StackFrames.result _ c.from_residual-in_err-push_str-in-StackFrames.ensures.0
+
+pub push_value-returns-in_err-push_str-in-StringMap : goal.push_value-returns-in_err-push_str-in-StringMap
+push_value-returns-in_err-push_str-in-StringMap t c = none_appended c.from_residual-in_err-push_str-in-StringMap.result _ c.from_residual-in_err-push_str-in-StringMap.ensures.0
+
+pub push_value-returns-in_err-push_text_pairs-in-StringMap : goal.push_value-returns-in_err-push_text_pairs-in-StringMap
+push_value-returns-in_err-push_text_pairs-in-StringMap t c = none_appended c.from_residual-in_err-push_text_pairs-in-StringMap.result _ c.from_residual-in_err-push_text_pairs-in-StringMap.ensures.0
+
+pub push_value-returns-in_err-push_str-in-List : goal.push_value-returns-in_err-push_str-in-List
+push_value-returns-in_err-push_str-in-List t c = none_appended c.from_residual-in_err-push_str-in-List.result _ c.from_residual-in_err-push_str-in-List.ensures.0
+
+pub push_value-returns-in_err-push_items-in-List : goal.push_value-returns-in_err-push_items-in-List
+push_value-returns-in_err-push_items-in-List t c = none_appended c.from_residual-in_err-push_items-in-List.result _ c.from_residual-in_err-push_items-in-List.ensures.0
+
+pub push_value-returns-in_err-push_str-in-Map : goal.push_value-returns-in_err-push_str-in-Map
+push_value-returns-in_err-push_str-in-Map t c = none_appended c.from_residual-in_err-push_str-in-Map.result _ c.from_residual-in_err-push_str-in-Map.ensures.0
+
+pub push_value-returns-in_err-push_pairs-in-Map : goal.push_value-returns-in_err-push_pairs-in-Map
+push_value-returns-in_err-push_pairs-in-Map t c = none_appended c.from_residual-in_err-push_pairs-in-Map.result _ c.from_residual-in_err-push_pairs-in-Map.ensures.0
+
+pub push_value-returns-in_ok-push_str-in-F64 : goal.push_value-returns-in_ok-push_str-in-F64
+push_value-returns-in_ok-push_str-in-F64 t c = in_two c.push_sixteen_digits.result _ _ _ _ _ _ (ap seen c.in-F64.is ∙ value_text_F64 c.in-F64.bits) c.in_ok-push_str-in-F64.ensures.bytes c.push_sixteen_digits.ensures
+
+pub push_value-returns-in_ok-push_str-in-String : goal.push_value-returns-in_ok-push_str-in-String
+push_value-returns-in_ok-push_str-in-String t c = in_two c.push_quoted.result _ _ _ _ _ _ (ap seen c.in-String.is ∙ value_text_String c.in-String.text) c.in_ok-push_str-in-String.ensures.bytes (rw c.as_bytes.ensures.value at c.push_quoted.ensures)
+
+pub push_value-returns-in_ok-push_str-in-Bytes : goal.push_value-returns-in_ok-push_str-in-Bytes
+push_value-returns-in_ok-push_str-in-Bytes t c = in_two c.push_quoted-in-Bytes.result _ _ _ _ _ _ (ap seen c.in-Bytes.is ∙ value_text_Bytes c.in-Bytes.bytes) c.in_ok-push_str-in-Bytes.ensures.bytes (rw c.deref.ensures.value at c.push_quoted-in-Bytes.ensures)
+
+pub push_value-returns-in-I64 : goal.push_value-returns-in-I64
+push_value-returns-in-I64 t c = in_one c.write.result _ _ _ _ (ap seen c.in-I64.is ∙ value_text_I64 c.in-I64.number) c.write.ensures.bytes
+
+pub push_value-returns-in-Bool : goal.push_value-returns-in-Bool
+push_value-returns-in-Bool t c = in_one c.write-in-Bool.result _ _ _ _ (ap seen c.in-Bool.is ∙ value_text_Bool c.in-Bool.flag) c.write-in-Bool.ensures.bytes
+
+pub push_value-returns-in-PooledString : goal.push_value-returns-in-PooledString
+push_value-returns-in-PooledString t c = in_one c.write-in-PooledString.result _ _ _ _ (ap seen c.in-PooledString.is ∙ value_text_PooledString c.in-PooledString.id) c.write-in-PooledString.ensures.bytes
+
+pub push_value-returns-in-Varint : goal.push_value-returns-in-Varint
+push_value-returns-in-Varint t c = in_one c.write-in-Varint.result _ _ _ _ (ap seen c.in-Varint.is ∙ value_text_Varint c.in-Varint.number) c.write-in-Varint.ensures.bytes
