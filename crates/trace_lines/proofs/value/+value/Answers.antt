@@ -1,8 +1,8 @@
-use Rattle.std.proofs.Common.{List, ℕ, rules, lit<, ap, ◌∙◌}
+use Rattle.std.proofs.Common.{List, ℕ, ◌++◌, codes, rules, lit<, ap, ◌∙◌}
 use Rattle.trace_values.specs.declared.types.field_value.FieldValue.{FieldValue}
 use Rattle.trace_values.specs.View.{view}
 use Rattle.trace_lines.specs.Lines.{value_text}
-use Rattle.trace_lines.proofs.AppendedParts.{in_one, in_two, in_three, none_appended}
+use Rattle.trace_lines.proofs.AppendedParts.{in_one, in_two, in_three, none_appended, joined_more, joined_all, pair_appended}
 use Rattle.trace_lines.proofs.ValueTexts.{value_text_I64, value_text_F64, value_text_Bool, value_text_String, value_text_Bytes, value_text_PooledString, value_text_Varint, value_text_StackFrames, value_text_PooledStackFrames, value_text_StringMap, value_text_List, value_text_Map}
 use Rattle.trace_lines.proofs.value.+value.Goals as goal
 
@@ -106,3 +106,22 @@ push_value-returns-in-PooledString t c = in_one c.write-in-PooledString.result _
 
 pub push_value-returns-in-Varint : goal.push_value-returns-in-Varint
 push_value-returns-in-Varint t c = in_one c.write-in-Varint.result _ _ _ _ (ap seen c.in-Varint.is ∙ value_text_Varint c.in-Varint.number) c.write-in-Varint.ensures.bytes
+
+pub push_items-loop-item-preserved : goal.push_items-loop-item-preserved
+push_items-loop-item-preserved t c = joined_more seen _ _ _ _ c.in-Some.others.now c.loop-item.item-index c.item-item.result c.loop-item.invariant c.in_ok-push.ensures.bytes c.in_ok-push_value-2.ensures c.item-item.is c.loop-item-test.true
+
+pub push_items-returns : goal.push_items-returns
+push_items-returns t c = joined_all seen _ _ _ c.args.items.now c.in-Some.others.now c.in-Some.first.now c.loop-item.item-index c.loop-item.invariant c.in_ok-push_value.ensures c.in-Some.ensures.cases.0 c.loop-item-test.false
+
+abbrev both_seen : FieldValue × FieldValue → List ℕ
+both_seen p = seen p.0 ++ codes "=" ++ seen p.1
+
+pub push_pairs-loop-pair-preserved : goal.push_pairs-loop-pair-preserved
+push_pairs-loop-pair-preserved t c =
+    let x = c.pair-item.result in
+    joined_more both_seen _ _ _ _ c.in-Some.others.now c.loop-pair.pair-index x c.loop-pair.invariant c.in_ok-push-2.ensures.bytes (pair_appended _ _ _ _ (seen x.0) (seen x.1) c.in_ok-push_value-3.ensures c.in_ok-push-3.ensures.bytes c.in_ok-push_value-4.ensures) c.pair-item.is c.loop-pair-test.true
+
+pub push_pairs-returns : goal.push_pairs-returns
+push_pairs-returns t c =
+    let x = c.in-Some.first.now in
+    joined_all both_seen _ _ _ c.args.pairs.now c.in-Some.others.now x c.loop-pair.pair-index c.loop-pair.invariant (pair_appended _ _ _ _ (seen x.0) (seen x.1) c.in_ok-push_value.ensures c.in_ok-push.ensures.bytes c.in_ok-push_value-2.ensures) c.in-Some.ensures.cases.0 c.loop-pair-test.false
