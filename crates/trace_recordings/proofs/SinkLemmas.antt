@@ -7,7 +7,7 @@ use Rattle.trace_values.specs.Values.{borrowed}
 use Rattle.trace_values.proofs.FixedWidths.{AreBytes-right}
 use Rattle.trace_wire.specs.Frames.{Grammar, empty, Frame, Schema}
 use Rattle.trace_wire.specs.Runs.{Ending, Whole, Stopped, Conflict, no_pools}
-use Rattle.dial9_trace_format.specs.Decoding.{DecoderState, StartsWith, new_decoder, rest_of, Goes, Conflicts, FailsBy, error_at}
+use Rattle.dial9_trace_format.specs.Decoding.{DecoderState, StartsWith, new_decoder, rest_of, Goes, Conflicts, FailsBy, error_of}
 use Rattle.dial9_trace_format.specs.ShownEvents.{ShownEvent}
 use Rattle.dial9_trace_format.specs.EventCauses.{CauseAt}
 use Rattle.dial9_trace_format.specs.Sinks.{Takes, visiting, events_of, TakesRun, HasCause, RunsSink, never_refused}
@@ -111,7 +111,7 @@ events_counted : (input : List ℕ) (version : ℕ) (mid : DecoderState) (frames
 events_counted input version mid frames s t none run = counted_from 0 (events_of empty no_pools frames) s t (none ∙ omega arith) run.taken ∙ ap (counted_up 0) (omega arith)
 
 fails_by : (input : List ℕ) (version : ℕ) (mid new : DecoderState) (e : DecodeError) (frames : List Frame) (failure : Failure) → 5 ≤ length input → Goes borrowed (new_decoder input version) mid frames → e.kind ≢ causes.OutOfMemory → FailsBy borrowed mid new failure
-    → e ≡ error_at new.position failure → EndsAt input frames Conflict new.position
+    → e ≡ error_of new.position failure → EndsAt input frames Conflict new.position
 fails_by input version mid new e frames (failures.Conflict id) inside g some x is = ends_conflict input version mid new id frames inside g x
 fails_by input version mid new e frames failures.OutOfMemory inside g some x is = absurd (some (ap (λ (x : DecodeError). x.kind) is))
 
