@@ -1,11 +1,13 @@
 -- What the dump of given bytes is: its lines, and the status that the program ends with.
-use Rattle.std.specs.Prelude.{◌≡◌, ◌⊎◌, ℕ, ◌-◌, Bool, true, false, List, ◌++◌, length, drop}
+use Rattle.std.specs.Prelude.{◌≡◌, ◌⊎◌, ℕ, ◌-◌, Bool, true, false, List, [], ◌++◌, length, drop}
 use Rattle.std.specs.List.{flat_map}
+use Rattle.std.specs.declared.io.ErrorKind.{ErrorKind}
 use Rattle.trace_values.specs.Values.{Kind, owned_reader, borrowed}
+use Rattle.trace_values.specs.Sending.{Account, Took}
 use Rattle.trace_wire.specs.Schemas.{Shape}
 use Rattle.trace_wire.specs.Frames.{Grammar, empty, Frame, Schema, header_length}
 use Rattle.trace_wire.specs.Runs.{Begins, Ending, Whole, Stopped, Conflict, IsLongest, Item, items, Pools, no_pools}
-use Rattle.dial9_trace_format.specs.Decoding.{StartsWith}
+use Rattle.dial9_trace_format.specs.Decoding.{StartsWith, IsHeadless}
 use Rattle.dial9_trace_format.specs.Sinks.{events_of}
 use Rattle.trace_lines.specs.Lines.{line, item_line, first_line, no_header_line, whole_line, stopped_line, conflict_line}
 use Rattle.trace_lines.specs.ResolvedLines.{event_lines}
@@ -73,7 +75,7 @@ pub record IsDumpFrom (form : DumpForm) (g : Grammar) (p : Pools) (size : ℕ) (
 
 -- the dump of an input that does not begin with a header
 pub record IsNoDump (input : List ℕ) (status : ℕ) (text : List ℕ) : Type 0 where
-  pub no_header : (version : ℕ) → StartsWith input version → ⊥
+  pub no_header : IsHeadless input
   pub status_is : status ≡ no_header_status
   pub text_is : text ≡ line no_header_line
 
@@ -107,3 +109,11 @@ pub record BeginsDumpAs (form : DumpForm) (input : List ℕ) (written : List ℕ
 -- bytes that the dump of an input begins with
 abbrev pub BeginsDump : Bool → List ℕ → List ℕ → Type 0
 BeginsDump resolve = BeginsDumpAs (form_by resolve)
+
+-- a text that is so went to a writer, without a fault
+abbrev pub Prints : (List ℕ → Type 0) → Account → Account → Type 0
+Prints is_so old new = (text : List ℕ) × is_so text × Took old new text []
+
+-- the same, with whatever faults came
+abbrev pub PrintsWithFaults : (List ℕ → Type 0) → Account → Account → Type 0
+PrintsWithFaults is_so old new = (written : List ℕ) × is_so written × (faults : List ErrorKind) × Took old new written faults

@@ -3,10 +3,9 @@ use Rattle.std.specs.Prelude.{◌≡◌, ◌≢◌, ◌⊎◌, ℕ, Bool, true, 
 use Rattle.std.specs.IoError.{error_kind}
 use Rattle.std.specs.declared.alloc.Global.{Global}
 use Rattle.std.specs.declared.io.Error.{Error}
-use Rattle.std.specs.declared.io.ErrorKind.{ErrorKind}
 use Rattle.std.specs.declared.io.ErrorKind.TheVariants.{InvalidData}
-use Rattle.trace_values.specs.Sending.{Account, Took}
-use Rattle.trace_lines.specs.Dumps.{failed_status, IsDump, BeginsDump}
+use Rattle.trace_values.specs.Sending.{Account}
+use Rattle.trace_lines.specs.Dumps.{failed_status, IsDump, BeginsDump, Prints, PrintsWithFaults}
 use Rattle.trace_lines.specs.declared.program.Task.{Task}
 use Rattle.trace_lines.specs.declared.program.Task.TheVariants.{Dump, Resolve, Usage, Fail}
 
@@ -32,13 +31,12 @@ resolves task = false
 
 -- the dump of all that a reader has left was written, where it tells what it has left
 abbrev pub DumpsAll : Bool → Option (List ℕ) → Account → Account → ℕ → Type 0
-DumpsAll resolve remaining old new status = (bytes : List ℕ) → remaining ≡ Some bytes → (text : List ℕ) × IsDump resolve bytes status text
-    × Took old new text []
+DumpsAll resolve remaining old new status = (bytes : List ℕ) → remaining ≡ Some bytes → Prints (IsDump resolve bytes status) old new
 
 -- whatever came of it, nothing was written, or a front of the dump of all that the reader has left
 abbrev pub DumpsFront : Bool → Option (List ℕ) → Account → Account → Type 0
 DumpsFront resolve remaining old new = (bytes : List ℕ) → remaining ≡ Some bytes
-    → (written : List ℕ) × (faults : List ErrorKind) × ((written ≡ []) ⊎ BeginsDump resolve bytes written) × Took old new written faults
+    → PrintsWithFaults (λ written. (written ≡ []) ⊎ BeginsDump resolve bytes written) old new
 
 -- what is told beside the dump: how to call the program, that it failed, or nothing
 abbrev pub message_for : Task → ℕ → List ℕ

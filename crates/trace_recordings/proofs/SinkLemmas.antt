@@ -108,7 +108,7 @@ made input version frames end place count told text header ends whole is t = rec
 }
 
 events_counted : (input : List ℕ) (version : ℕ) (mid : DecoderState) (frames : List Frame) (s t : EventCounter) → s.events ≡ 0 → TakesRun (visiting {S = EventCounter} {E = ⊥} counts) (new_decoder input version) mid frames s t → t.events ≡ counted_up 0 (length (events_of empty no_pools frames))
-events_counted input version mid frames s t none run = counted_from 0 (events_of empty no_pools frames) s t (none ∙ omega arith) run.taken ∙ ap (counted_up 0) (omega arith)
+events_counted input version mid frames s t none run = counted_from 0 (events_of empty no_pools frames) s t (none ∙ omega arith) run.steps ∙ ap (counted_up 0) (omega arith)
 
 fails_by : (input : List ℕ) (version : ℕ) (mid new : DecoderState) (e : DecodeError) (frames : List Frame) (failure : Failure) → 5 ≤ length input → Goes borrowed (new_decoder input version) mid frames → e.kind ≢ causes.OutOfMemory → FailsBy borrowed mid new failure
     → e ≡ error_of new.position failure → EndsAt input frames Conflict new.position

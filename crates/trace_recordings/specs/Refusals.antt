@@ -7,7 +7,7 @@ use Rattle.trace_recordings.specs.declared.script.definitions.Definition.{Defini
 use Rattle.trace_recordings.specs.declared.script.call.ScriptCall.{ScriptCall}
 use Rattle.trace_recordings.specs.declared.script.call.ScriptCall.TheVariants.{Register, Event, DefineType, WriteTyped, Resume}
 use Rattle.trace_recordings.specs.Scripts.{IsScript, IsBrokenAt, word_of}
-use Rattle.dial9_trace_format.specs.Decoding.{StartsWith}
+use Rattle.dial9_trace_format.specs.Decoding.{IsHeadless}
 use Rattle.trace_recordings.specs.Playing.{Defined, Playing, TurnsEach, defined_entry, start, under}
 use Rattle.trace_recordings.specs.Samples.{sample_index}
 use Rattle.trace_recordings.specs.Tallies.{counted_up}
@@ -75,10 +75,6 @@ NamesUnknown calls line handle = StopsAtLine calls line (λ p call. NamesNone p.
 -- the call of the line writes an event of a type, whose values were not taken
 abbrev pub NamesUnheld : List ScriptCall → ℕ → Type 0
 NamesUnheld calls line = StopsAtLine calls line (λ p call. WritesTyped call)
-
--- no header stands at the front
-abbrev pub IsHeadless : List ℕ → Type 0
-IsHeadless trace = (version : ℕ) → StartsWith trace version → ⊥
 
 -- the call goes on after an output without a header
 abbrev pub ResumesHeadless : Playing → ScriptCall → Type 0

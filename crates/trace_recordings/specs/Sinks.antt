@@ -4,7 +4,7 @@ use Rattle.trace_values.specs.Values.{borrowed}
 use Rattle.trace_wire.specs.Schemas.{Shape}
 use Rattle.trace_wire.specs.Frames.{Grammar, empty, Frame, Schema, header_length}
 use Rattle.trace_wire.specs.Runs.{Begins, Ending, Whole, Stopped, Conflict, IsLongest, no_pools}
-use Rattle.dial9_trace_format.specs.Decoding.{StartsWith}
+use Rattle.dial9_trace_format.specs.Decoding.{StartsWith, IsHeadless}
 use Rattle.dial9_trace_format.specs.ShownEvents.{ShownEvent}
 use Rattle.dial9_trace_format.specs.Sinks.{events_of}
 use Rattle.trace_lines.specs.Lines.{line}
@@ -49,7 +49,7 @@ pub record IsStreamSink (input : List ℕ) (text : List ℕ) : Type 0 where
 
 -- the line where no header stands
 pub record IsNoSink (input : List ℕ) (text : List ℕ) : Type 0 where
-  pub no_header : (version : ℕ) → StartsWith input version → ⊥
+  pub no_header : IsHeadless input
   pub text_is : text ≡ line (codes "no header")
 
 -- what a sink is given of any input

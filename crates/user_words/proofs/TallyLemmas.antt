@@ -10,7 +10,7 @@ use Rattle.user_words.specs.Tallies.{tallies, TalliesAll}
 
 counted : SinkCounts tallies → (old new : DecoderState) (s t : Tally) (r : Result (Unit {0}) (TryForEachError Full)) → RunsSink tallies old new s t r → OnOk r (TalliesAll old new s t)
 counted counts old new s t (Ok u) h =
-    record { frames = h.0; goes = h.1.goes; ended = h.2; counted = counts (λ (x : Tally). x.count) (λ a e b k. k) (events_of old.grammar old.pools h.0) s t h.1.taken }
+    record { frames = h.0; goes = h.1.goes; ended = h.2; counted = counts (λ (x : Tally). x.count) (λ a e b k. k) (events_of old.grammar old.pools h.0) s t h.1.steps }
 counted counts old new s t (Err e) h = tt
 
 pub tally_counts : SinkCounts tallies → (old new : DecoderState) (s t : Tally) (r : Result (Unit {0}) (TryForEachError Full)) (f : Option Failure) → (f ≡ None → RunsSink tallies old new s t r) → IfSome f (λ x. RunsAfter x old new s t r) → OnOk r (TalliesAll old new s t)
