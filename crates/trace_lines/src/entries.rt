@@ -7,6 +7,7 @@ ghost use Rattle.trace_lines.specs.Lines.{string_entry_text, stack_entry_text, a
 
 use crate::text::{push_addresses, push_quoted};
 use std::alloc::AllocError;
+use trace_values::tri;
 use trace_wire::codec::{PoolEntry, StackPoolEntry};
 use trace_wire::schema::FieldAnnotation;
 
@@ -16,7 +17,7 @@ pub fn push_string_entry(out: &mut String, entry: &PoolEntry) -> Result<(), Allo
     ensures { AppendsText (string_entry_text (string_entry_of entry.now)) out.old out.new result }
 {
     let id = entry.pool_id;
-    write!(out, " {id}:")?;
+    tri!(write!(out, " {id}:"));
     push_quoted(out, &entry.bytes)
 }
 
@@ -26,7 +27,7 @@ pub fn push_stack_entry(out: &mut String, entry: &StackPoolEntry) -> Result<(), 
     ensures { AppendsText (stack_entry_text (stack_entry_of entry.now)) out.old out.new result }
 {
     let id = entry.pool_id;
-    write!(out, " {id}:")?;
+    tri!(write!(out, " {id}:"));
     push_addresses(out, &entry.frames)
 }
 
@@ -36,8 +37,8 @@ pub fn push_annotation(out: &mut String, annotation: &FieldAnnotation) -> Result
     ensures { AppendsText (annotation_text annotation.now) out.old out.new result }
 {
     let index = annotation.field_index();
-    write!(out, " {index}:")?;
-    push_quoted(out, annotation.key().as_bytes())?;
-    out.push('=')?;
+    tri!(write!(out, " {index}:"));
+    tri!(push_quoted(out, annotation.key().as_bytes()));
+    tri!(out.push('='));
     push_quoted(out, annotation.value().as_bytes())
 }

@@ -7,6 +7,7 @@ ghost use Rattle.trace_lines.specs.Lines.{value_text};
 
 use crate::text::{push_addresses, push_quoted, push_sixteen_digits};
 use std::alloc::AllocError;
+use trace_values::tri;
 use trace_values::types::{InternedStackFrames, InternedString};
 
 /// Appends a signed number.
@@ -20,7 +21,7 @@ pub fn push_integer(out: &mut String, number: i64) -> Result<(), AllocError>
 pub fn push_float(out: &mut String, bits: u64) -> Result<(), AllocError>
     ensures { AppendsText (value_text (float bits)) out.old out.new result }
 {
-    out.push_str("F64:0x")?;
+    tri!(out.push_str("F64:0x"));
     push_sixteen_digits(out, bits)
 }
 
@@ -42,7 +43,7 @@ pub fn push_number(out: &mut String, held: u64) -> Result<(), AllocError>
 pub fn push_text(out: &mut String, characters: &[u8]) -> Result<(), AllocError>
     ensures { AppendsText (value_text (text characters.now)) out.old out.new result }
 {
-    out.push_str("String:")?;
+    tri!(out.push_str("String:"));
     push_quoted(out, characters)
 }
 
@@ -50,7 +51,7 @@ pub fn push_text(out: &mut String, characters: &[u8]) -> Result<(), AllocError>
 pub fn push_bytes(out: &mut String, held: &[u8]) -> Result<(), AllocError>
     ensures { AppendsText (value_text (bytes held.now)) out.old out.new result }
 {
-    out.push_str("Bytes:")?;
+    tri!(out.push_str("Bytes:"));
     push_quoted(out, held)
 }
 
@@ -58,7 +59,7 @@ pub fn push_bytes(out: &mut String, held: &[u8]) -> Result<(), AllocError>
 pub fn push_stack(out: &mut String, addresses: &[u64]) -> Result<(), AllocError>
     ensures { AppendsText (value_text (stack addresses.now)) out.old out.new result }
 {
-    out.push_str("StackFrames:")?;
+    tri!(out.push_str("StackFrames:"));
     push_addresses(out, addresses)
 }
 

@@ -13,6 +13,7 @@ use std::process::ExitCode;
 use std::rt::Env;
 use std::{env, io};
 use trace_values::leb128::{Plain, TraceWrite};
+use trace_values::tri;
 
 /// What a program is asked for.
 #[derive(Clone, Copy, PartialEq, Eq)]
@@ -41,7 +42,7 @@ pub fn run(rt: &(impl AllocGlobal + Env + Input + Print + Eprint)) -> ExitCode
 
 // The words after the program's name.
 fn words_of(rt: &(impl AllocGlobal + Env)) -> io::Result<Vec<String>> {
-    let arguments = env::args(rt)?;
+    let arguments = tri!(env::args(rt));
     Ok(arguments.skip(1).collect(rt.alloc())?)
 }
 

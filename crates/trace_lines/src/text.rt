@@ -7,15 +7,16 @@ ghost use Rattle.trace_lines.specs.Appending.{AppendsText};
 ghost use Rattle.trace_lines.specs.Lines.{escaped_byte, quoted_byte, quoted, address_list, sixteen_digits};
 
 use std::alloc::AllocError;
+use trace_values::tri;
 
 /// Appends bytes in quotes (docs/FORMAT.md, "Dumps"). `AllocError` where a growth was refused.
 #[tactic(auto, unfolding(crate::specs::Lines::quoted))]
 pub fn push_quoted(out: &mut String, bytes: &[u8]) -> Result<(), AllocError>
     ensures { AppendsText (quoted bytes.now) out.old out.new result }
 {
-    out.push('"')?;
+    tri!(out.push('"'));
     for byte in bytes {
-        push_quoted_byte(out, *byte)?;
+        tri!(push_quoted_byte(out, *byte));
     }
     out.push('"')
 }
@@ -25,11 +26,11 @@ pub fn push_quoted(out: &mut String, bytes: &[u8]) -> Result<(), AllocError>
 pub fn push_addresses(out: &mut String, addresses: &[u64]) -> Result<(), AllocError>
     ensures { AppendsText (address_list addresses.now) out.old out.new result }
 {
-    out.push('[')?;
+    tri!(out.push('['));
     if let Some((first, others)) = addresses.split_first() {
-        write!(out, "0x{first:x}")?;
+        tri!(write!(out, "0x{first:x}"));
         for address in others {
-            write!(out, ",0x{address:x}")?;
+            tri!(write!(out, ",0x{address:x}"));
         }
     }
     out.push(']')

@@ -14,6 +14,7 @@ use crate::plain::{
 };
 use crate::text::push_quoted;
 use std::alloc::AllocError;
+use trace_values::tri;
 use trace_values::types::FieldValue;
 
 /// Appends a value: the name of its kind, and what it holds (docs/FORMAT.md, "Dumps"). `AllocError` where a growth was refused.
@@ -42,8 +43,8 @@ pub fn push_value(out: &mut String, value: &FieldValue) -> Result<(), AllocError
 fn push_list(out: &mut String, items: &[FieldValue]) -> Result<(), AllocError>
     ensures { AppendsText (value_text (list (values_to_items (views items.now)))) out.old out.new result }
 {
-    out.push_str("List:[")?;
-    push_items(out, items)?;
+    tri!(out.push_str("List:["));
+    tri!(push_items(out, items));
     out.push(']')
 }
 
@@ -51,8 +52,8 @@ fn push_list(out: &mut String, items: &[FieldValue]) -> Result<(), AllocError>
 fn push_map(out: &mut String, pairs: &[(FieldValue, FieldValue)]) -> Result<(), AllocError>
     ensures { AppendsText (value_text (map (values_to_pairs (pair_views pairs.now)))) out.old out.new result }
 {
-    out.push_str("Map:{")?;
-    push_pairs(out, pairs)?;
+    tri!(out.push_str("Map:{"));
+    tri!(push_pairs(out, pairs));
     out.push('}')
 }
 
@@ -63,10 +64,10 @@ fn push_items(out: &mut String, items: &[FieldValue]) -> Result<(), AllocError>
     let Some((first, others)) = items.split_first() else {
         return Ok(());
     };
-    push_value(out, first)?;
+    tri!(push_value(out, first));
     for item in others {
-        out.push(',')?;
-        push_value(out, item)?;
+        tri!(out.push(','));
+        tri!(push_value(out, item));
     }
     Ok(())
 }
@@ -78,14 +79,14 @@ fn push_pairs(out: &mut String, pairs: &[(FieldValue, FieldValue)]) -> Result<()
     let Some((first, others)) = pairs.split_first() else {
         return Ok(());
     };
-    push_value(out, &first.0)?;
-    out.push('=')?;
-    push_value(out, &first.1)?;
+    tri!(push_value(out, &first.0));
+    tri!(out.push('='));
+    tri!(push_value(out, &first.1));
     for pair in others {
-        out.push(',')?;
-        push_value(out, &pair.0)?;
-        out.push('=')?;
-        push_value(out, &pair.1)?;
+        tri!(out.push(','));
+        tri!(push_value(out, &pair.0));
+        tri!(out.push('='));
+        tri!(push_value(out, &pair.1));
     }
     Ok(())
 }
@@ -93,8 +94,8 @@ fn push_pairs(out: &mut String, pairs: &[(FieldValue, FieldValue)]) -> Result<()
 fn push_texts(out: &mut String, pairs: &[(Vec<u8>, Vec<u8>)]) -> Result<(), AllocError>
     ensures { AppendsText (value_text (texts (text_pairs_view pairs.now))) out.old out.new result }
 {
-    out.push_str("StringMap:{")?;
-    push_text_pairs(out, pairs)?;
+    tri!(out.push_str("StringMap:{"));
+    tri!(push_text_pairs(out, pairs));
     out.push('}')
 }
 
@@ -104,10 +105,10 @@ fn push_text_pairs(out: &mut String, pairs: &[(Vec<u8>, Vec<u8>)]) -> Result<(),
     let Some((first, others)) = pairs.split_first() else {
         return Ok(());
     };
-    push_text_pair(out, first)?;
+    tri!(push_text_pair(out, first));
     for pair in others {
-        out.push(',')?;
-        push_text_pair(out, pair)?;
+        tri!(out.push(','));
+        tri!(push_text_pair(out, pair));
     }
     Ok(())
 }
@@ -115,7 +116,7 @@ fn push_text_pairs(out: &mut String, pairs: &[(Vec<u8>, Vec<u8>)]) -> Result<(),
 fn push_text_pair(out: &mut String, pair: &(Vec<u8>, Vec<u8>)) -> Result<(), AllocError>
     ensures { AppendsText (pair_text (pair.now.0.items, pair.now.1.items)) out.old out.new result }
 {
-    push_quoted(out, &pair.0)?;
-    out.push('=')?;
+    tri!(push_quoted(out, &pair.0));
+    tri!(out.push('='));
     push_quoted(out, &pair.1)
 }

@@ -37,16 +37,16 @@ push_value-returns-in-List t c = shown_as _ _ c.args.out.now c.push_list.new.out
 pub push_value-returns-in-Map : goal.push_value-returns-in-Map
 push_value-returns-in-Map t c = shown_as _ _ c.args.out.now c.push_map.new.out c.push_map.result (ap view c.in-Map.is ∙ view_map c.in-Map.pairs) (rw c.deref-in-Map.ensures.value at c.push_map.ensures)
 
-pub push_list-returns : goal.push_list-returns
-push_list-returns t c = in_three c.push.result _ _ _ _ _ _ _ _ (lit< tt) (text_of_list view c.args.items.now) c.in_ok-push_str.ensures.bytes c.in_ok-push_items.ensures c.push.ensures.bytes
+pub push_list-returns-3 : goal.push_list-returns-3
+push_list-returns-3 t c = in_three c.push.result _ _ _ _ _ _ _ _ (lit< tt) (text_of_list view c.args.items.now) c.in-Ok-tri.ensures.bytes c.in-Ok-tri-2.ensures c.push.ensures.bytes
 
-pub push_map-returns : goal.push_map-returns
-push_map-returns t c = in_three c.push.result _ _ _ _ _ _ _ _ (lit< tt) (text_of_map (λ p. (view p.0, view p.1)) c.args.pairs.now) c.in_ok-push_str.ensures.bytes c.in_ok-push_pairs.ensures c.push.ensures.bytes
+pub push_map-returns-3 : goal.push_map-returns-3
+push_map-returns-3 t c = in_three c.push.result _ _ _ _ _ _ _ _ (lit< tt) (text_of_map (λ p. (view p.0, view p.1)) c.args.pairs.now) c.in-Ok-tri.ensures.bytes c.in-Ok-tri-2.ensures c.push.ensures.bytes
 
 pub push_items-loop-item-preserved : goal.push_items-loop-item-preserved
-push_items-loop-item-preserved t c = listed_more (λ v. value_text (view v)) (string_bytes c.push_value.new.out) (string_bytes c.loop-item.out) (string_bytes c.push.new.self) _ c.in-Some.others.now c.loop-item.item-index c.item-item.result c.loop-item-test.true c.item-item.is c.loop-item.invariant c.in_ok-push.ensures.bytes c.in_ok-push_value-2.ensures
+push_items-loop-item-preserved t c = listed_more (λ v. value_text (view v)) (string_bytes c.push_value.new.out) (string_bytes c.loop-item.out) (string_bytes c.push.new.self) _ c.in-Some.others.now c.loop-item.item-index c.item-item.result c.loop-item-test.true c.item-item.is c.loop-item.invariant c.in-Ok-tri-2.ensures.bytes c.in-Ok-tri-3.ensures
 
 pub push_pairs-loop-pair-preserved : goal.push_pairs-loop-pair-preserved
 push_pairs-loop-pair-preserved t c =
-    let put = keyed (string_bytes c.push-in-loop-pair.new.self) _ _ _ (value_text (view c.pair-item.result.0)) (value_text (view c.pair-item.result.1)) c.in_ok-push_value-3.ensures c.in_ok-push-3.ensures.bytes c.in_ok-push_value-4.ensures in
-    listed_more (λ p. value_text (view p.0) ++ codes "=" ++ value_text (view p.1)) (string_bytes c.push_value-2.new.out) (string_bytes c.loop-pair.out) (string_bytes c.push-in-loop-pair.new.self) _ c.in-Some.others.now c.loop-pair.pair-index c.pair-item.result c.loop-pair-test.true c.pair-item.is c.loop-pair.invariant c.in_ok-push-2.ensures.bytes put
+    let put = keyed (string_bytes c.push-in-loop-pair.new.self) _ _ _ (value_text (view c.pair-item.result.0)) (value_text (view c.pair-item.result.1)) c.in-Ok-tri-5.ensures c.in-Ok-tri-6.ensures.bytes c.in-Ok-tri-7.ensures in
+    listed_more (λ p. value_text (view p.0) ++ codes "=" ++ value_text (view p.1)) (string_bytes c.push_value-2.new.out) (string_bytes c.loop-pair.out) (string_bytes c.push-in-loop-pair.new.self) _ c.in-Some.others.now c.loop-pair.pair-index c.pair-item.result c.loop-pair-test.true c.pair-item.is c.loop-pair.invariant c.in-Ok-tri-4.ensures.bytes put
