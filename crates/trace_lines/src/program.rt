@@ -4,6 +4,7 @@
 ghost use Rattle.std.specs.Prelude.{◌≡◌, ◌≢◌, ◌≤◌};
 ghost use Rattle.std.specs.Process.{exit_status};
 ghost use Rattle.trace_values.specs.Sending.{IsSettled};
+ghost use Rattle.trace_lines.specs.Dumps.{failed_status};
 ghost use Rattle.trace_lines.specs.Program.{AsksFor, WordsAskFor, resolves, DumpsAll, DumpsFront, message_for};
 
 use crate::dump::{FAILED, dump};
@@ -30,7 +31,7 @@ pub enum Task {
 
 /// Runs the program, and answers the status with which it ends: that of the dump, or `FAILED`.
 pub fn run(rt: &(impl AllocGlobal + Env + Input + Print + Eprint)) -> ExitCode
-    ensures { exit_status result ≤ FAILED }
+    ensures { exit_status result ≤ failed_status }
 {
     let task = task_of(words_of(rt));
     let mut input = rt.reader();
@@ -77,12 +78,12 @@ pub fn carry_out<R: Read, W: TraceWrite>(
     input: &mut R,
     out: &mut W,
 ) -> u8
-    ensures asked { task ≢ Task.Dump → task ≢ Task.Resolve → result ≡ FAILED }
+    ensures asked { task ≢ Task.Dump → task ≢ Task.Resolve → result ≡ failed_status }
     ensures quiet { task ≢ Task.Dump → task ≢ Task.Resolve → out.new ≡ out.old }
     ensures front { DumpsFront (resolves task) (R.remaining input.old) (W.told out.old) (W.told out.new) }
-    ensures lines { result ≢ FAILED → DumpsAll (resolves task) (R.remaining input.old) (W.told out.old) (W.told out.new) result }
-    ensures settled { result ≢ FAILED → IsSettled (W.told out.new) }
-    ensures known { result ≤ FAILED }
+    ensures lines { result ≢ failed_status → DumpsAll (resolves task) (R.remaining input.old) (W.told out.old) (W.told out.new) result }
+    ensures settled { result ≢ failed_status → IsSettled (W.told out.new) }
+    ensures known { result ≤ failed_status }
 {
     let resolve = match task {
         Task::Dump => false,
