@@ -47,8 +47,8 @@ fn words_of(rt: &(impl AllocGlobal + Env)) -> io::Result<Vec<String>> {
     Ok(arguments.skip(1).collect(rt.alloc())?)
 }
 
-/// What the words after the program's name ask for, or why they could not be read. All but no word and the one word
-/// `--resolve` asks for the usage, also a word that is not UTF-8.
+/// What the words after the program's name ask for, or why they could not be read. No word asks for the dump, the one word `--resolve` for
+/// the events; all else, also a word that is not UTF-8, for the usage.
 pub fn task_of(words: io::Result<Vec<String>>) -> Task
     ensures { AsksFor words result }
 {
@@ -79,7 +79,7 @@ pub fn carry_out<R: Read, W: TraceWrite>(
     out: &mut W,
 ) -> u8
     ensures asked { task ≢ Task.Dump → task ≢ Task.Resolve → result ≡ failed_status }
-    ensures quiet { task ≢ Task.Dump → task ≢ Task.Resolve → out.new ≡ out.old }
+    ensures same_writer { task ≢ Task.Dump → task ≢ Task.Resolve → out.new ≡ out.old }
     ensures front { DumpsFront (resolves task) (R.remaining input.old) (W.told out.old) (W.told out.new) }
     ensures lines { result ≢ failed_status → DumpsAll (resolves task) (R.remaining input.old) (W.told out.old) (W.told out.new) result }
     ensures settled { result ≢ failed_status → IsSettled (W.told out.new) }
