@@ -4,6 +4,7 @@
 ghost use Rattle.std.specs.Prelude.{◌≡◌, ◌≢◌, ◌≤◌};
 ghost use Rattle.std.specs.Process.{exit_status};
 ghost use Rattle.trace_values.specs.Sending.{IsSettled};
+ghost use Rattle.trace_lines.specs.Dumps.{failed_status};
 ghost use Rattle.trace_lines.specs.Program.{AsksFor, WordsAskFor, resolves, DumpsAll, DumpsFront, message_for};
 
 use crate::dump::{FAILED, dump};
@@ -30,7 +31,7 @@ pub enum Task {
 
 /// Runs the program, and answers the status with which it ends: that of the dump, or `FAILED`.
 pub fn run(rt: &(impl AllocGlobal + Env + Input + Print + Eprint)) -> ExitCode
-    ensures { exit_status result ≤ FAILED }
+    ensures { exit_status result ≤ failed_status }
 {
     let task = task_of(words_of(rt));
     let mut input = rt.reader();
@@ -46,8 +47,8 @@ fn words_of(rt: &(impl AllocGlobal + Env)) -> io::Result<Vec<String>> {
     Ok(arguments.skip(1).collect(rt.alloc())?)
 }
 
-/// What the words after the program's name ask for, or why they could not be read. All but no word and the one word
-/// `--resolve` asks for the usage, also a word that is not UTF-8.
+/// What the words after the program's name ask for, or why they could not be read. No word asks for the dump, the one word `--resolve` for
+/// the events; all else, also a word that is not UTF-8, for the usage.
 pub fn task_of(words: io::Result<Vec<String>>) -> Task
     ensures { AsksFor words result }
 {
@@ -77,12 +78,12 @@ pub fn carry_out<R: Read, W: TraceWrite>(
     input: &mut R,
     out: &mut W,
 ) -> u8
-    ensures asked { task ≢ Task.Dump → task ≢ Task.Resolve → result ≡ FAILED }
-    ensures quiet { task ≢ Task.Dump → task ≢ Task.Resolve → out.new ≡ out.old }
+    ensures asked { task ≢ Task.Dump → task ≢ Task.Resolve → result ≡ failed_status }
+    ensures same_writer { task ≢ Task.Dump → task ≢ Task.Resolve → out.new ≡ out.old }
     ensures front { DumpsFront (resolves task) (R.remaining input.old) (W.told out.old) (W.told out.new) }
-    ensures lines { result ≢ FAILED → DumpsAll (resolves task) (R.remaining input.old) (W.told out.old) (W.told out.new) result }
-    ensures settled { result ≢ FAILED → IsSettled (W.told out.new) }
-    ensures known { result ≤ FAILED }
+    ensures lines { result ≢ failed_status → DumpsAll (resolves task) (R.remaining input.old) (W.told out.old) (W.told out.new) result }
+    ensures settled { result ≢ failed_status → IsSettled (W.told out.new) }
+    ensures known { result ≤ failed_status }
 {
     let resolve = match task {
         Task::Dump => false,

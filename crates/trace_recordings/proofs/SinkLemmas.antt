@@ -15,7 +15,7 @@ use Rattle.dial9_trace_format.specs.declared.failure.Failure.{Failure}
 use Rattle.dial9_trace_format.specs.declared.failure.Failure.TheVariants as failures
 use Rattle.dial9_trace_format.specs.declared.decoder.error.DecodeError.{DecodeError}
 use Rattle.dial9_trace_format.specs.declared.decoder.error.DecodeErrorKind.{DecodeErrorKind}
-use Rattle.dial9_trace_format.specs.declared.decoder.error.DecodeErrorKind.TheVariants as causes
+use Rattle.dial9_trace_format.specs.declared.decoder.error.DecodeErrorKind.TheVariants as error_kinds
 use Rattle.trace_wire.specs.declared.schema.WireTypeId.{WireTypeId}
 use Rattle.dial9_trace_format.proofs.DecoderRuns.{left_at, goes_inside}
 use Rattle.dial9_trace_format.proofs.CauseLemmas.{cause_is_no_frame}
@@ -44,17 +44,17 @@ place_of old new frames g h =
 
 -- no cause stands where nothing is left
 no_cause : (g : Grammar) (n : ℕ) (kind : DecodeErrorKind) → CauseAt g [] n kind → ⊥
-no_cause g n causes.TruncatedEvent f = cc
-no_cause g n (causes.UnknownTypeId id) f = cc
-no_cause g n causes.TruncatedDelta f = cc
-no_cause g n causes.TimestampOverflow f = cc
-no_cause g n causes.TruncatedPrefix f = cc
-no_cause g n causes.TruncatedOptional f = cc
-no_cause g n causes.TruncatedValue f = cc
-no_cause g n causes.TruncatedReset f = cc
-no_cause g n (causes.NoFrame tag) f = cc
-no_cause g n (causes.Conflict id) f = f
-no_cause g n causes.OutOfMemory f = f
+no_cause g n error_kinds.TruncatedEvent f = cc
+no_cause g n (error_kinds.UnknownTypeId id) f = cc
+no_cause g n error_kinds.TruncatedDelta f = cc
+no_cause g n error_kinds.TimestampOverflow f = cc
+no_cause g n error_kinds.TruncatedPrefix f = cc
+no_cause g n error_kinds.TruncatedOptional f = cc
+no_cause g n error_kinds.TruncatedValue f = cc
+no_cause g n error_kinds.TruncatedReset f = cc
+no_cause g n (error_kinds.NoFrame tag) f = cc
+no_cause g n (error_kinds.Conflict id) f = f
+no_cause g n error_kinds.OutOfMemory f = f
 
 ends_whole : (input : List ℕ) (version : ℕ) (new : DecoderState) (frames : List Frame) → 5 ≤ length input → Goes borrowed (new_decoder input version) new frames → rest_of new ≡ [] → EndsAt input frames Whole new.position
 ends_whole input version new frames inside g done = record {
@@ -110,13 +110,13 @@ made input version frames end place count told text header ends whole is t = rec
 events_counted : (input : List ℕ) (version : ℕ) (mid : DecoderState) (frames : List Frame) (s t : EventCounter) → s.events ≡ 0 → TakesRun (visiting {S = EventCounter} {E = ⊥} counts) (new_decoder input version) mid frames s t → t.events ≡ counted_up 0 (length (events_of empty no_pools frames))
 events_counted input version mid frames s t none run = counted_from 0 (events_of empty no_pools frames) s t (none ∙ omega arith) run.steps ∙ ap (counted_up 0) (omega arith)
 
-fails_by : (input : List ℕ) (version : ℕ) (mid new : DecoderState) (e : DecodeError) (frames : List Frame) (failure : Failure) → 5 ≤ length input → Goes borrowed (new_decoder input version) mid frames → e.kind ≢ causes.OutOfMemory → FailsBy borrowed mid new failure
+fails_by : (input : List ℕ) (version : ℕ) (mid new : DecoderState) (e : DecodeError) (frames : List Frame) (failure : Failure) → 5 ≤ length input → Goes borrowed (new_decoder input version) mid frames → e.kind ≢ error_kinds.OutOfMemory → FailsBy borrowed mid new failure
     → e ≡ error_of new.position failure → EndsAt input frames Conflict new.position
 fails_by input version mid new e frames (failures.Conflict id) inside g some x is = ends_conflict input version mid new id frames inside g x
 fails_by input version mid new e frames failures.OutOfMemory inside g some x is = absurd (some (ap (λ (x : DecodeError). x.kind) is))
 
 from_start : (input : List ℕ) (version : ℕ) (new : DecoderState) (s t : EventCounter) (result : Result (Unit {0}) DecodeError) (told text : List ℕ) → StartsWith input version → 5 ≤ length input → AreBytes (drop 5 input) → s.events ≡ 0
-    → RunsSink (visiting {S = EventCounter} {E = ⊥} counts) (new_decoder input version) new s t (never_refused result) → IfOk result (λ u. told ≡ codes "ok") → IfErr result (λ e. e.kind ≢ causes.OutOfMemory)
+    → RunsSink (visiting {S = EventCounter} {E = ⊥} counts) (new_decoder input version) new s t (never_refused result) → IfOk result (λ u. told ≡ codes "ok") → IfErr result (λ e. e.kind ≢ error_kinds.OutOfMemory)
     → text ≡ sink_text t.events told new.position → IsStreamSink input text
 from_start input version new s t (Ok u) told text header inside fits none (frames, run, done) ok memory is =
     made input version frames Whole new.position t.events told text header (ends_whole input version new frames inside run.goes done) (λ w. ok) (events_counted input version new frames s t none run) is
@@ -126,7 +126,7 @@ from_start input version new s t (Err e) told text header inside fits none (fram
     made input version frames Conflict new.position t.events told text header (fails_by input version mid new e frames f.failure inside run.goes memory f.fails f.error) (λ w. absurd cc) (events_counted input version mid frames s t none run) is
 
 pub stream_sink : (r new : DecoderState) (s t : EventCounter) (result : Result (Unit {0}) DecodeError) (told : List ℕ) → StartsWith r.input r.version → r ≡ new_decoder r.input r.version → r.position ≤ length r.input → AreBytes (rest_of r) → s.events ≡ 0
-    → (r.failure ≡ None → RunsSink (visiting {S = EventCounter} {E = ⊥} counts) r new s t (never_refused result)) → IfOk result (λ u. told ≡ codes "ok") → IfErr result (λ e. e.kind ≢ causes.OutOfMemory) → IsStreamSink r.input (sink_text t.events told new.position)
+    → (r.failure ≡ None → RunsSink (visiting {S = EventCounter} {E = ⊥} counts) r new s t (never_refused result)) → IfOk result (λ u. told ≡ codes "ok") → IfErr result (λ e. e.kind ≢ error_kinds.OutOfMemory) → IsStreamSink r.input (sink_text t.events told new.position)
 stream_sink r new s t result told header is inside fits none runs ok memory =
     let five : 5 ≤ length r.input = omega (arith, inside, ap (λ (d : DecoderState). d.position) is) in
     let bytes : AreBytes (drop 5 r.input) = subst (λ (d : DecoderState). AreBytes (rest_of d)) is fits in
