@@ -34,23 +34,23 @@ slot_of Wide = 0
 
 -- the schema
 abbrev pub entry_in : Sample → Entry
-entry_in FastSlot = entries.fast_slot
-entry_in Poll = entries.poll
+entry_in FastSlot = entries.fast_slot_entry
+entry_in Poll = entries.poll_entry
 entry_in Texts = entries.texts_entry
 entry_in Stacks = entries.stacks_entry
 entry_in Annotated = entries.annotated_entry
-entry_in LastSlot = entries.last_slot
-entry_in ByName = entries.other
-entry_in Dynamic = entries.dynamic
-entry_in PollAgain = entries.poll_again
-entry_in PollAnnotated = entries.poll_annotated
-entry_in SlotClash = entries.other
-entry_in AlsoByName = entries.also
-entry_in Nameless = entries.nameless
+entry_in LastSlot = entries.last_slot_entry
+entry_in ByName = entries.other_entry
+entry_in Dynamic = entries.dynamic_entry
+entry_in PollAgain = entries.poll_again_entry
+entry_in PollAnnotated = entries.poll_annotated_entry
+entry_in SlotClash = entries.other_entry
+entry_in AlsoByName = entries.also_entry
+entry_in Nameless = entries.nameless_entry
 entry_in Borrowed = entries.borrowed_entry
 entry_in Numbers = entries.numbers_entry
 entry_in Options = entries.options_entry
-entry_in Wide = entries.wide
+entry_in Wide = entries.wide_entry
 
 abbrev pub samples : List Sample
 samples = FastSlot ∷ Poll ∷ Texts ∷ Stacks ∷ Annotated ∷ LastSlot ∷ ByName ∷ Dynamic ∷ PollAgain ∷ PollAnnotated ∷ SlotClash ∷ AlsoByName ∷ Nameless

@@ -3,12 +3,13 @@ use Rattle.std.specs.Prelude.{ℕ, List, [], ◌∷◌, codes}
 use Rattle.std.specs.Borrow.{Bor}
 use Rattle.trace_values.specs.declared.types.field_type.FieldType.{FieldType}
 use Rattle.trace_values.specs.declared.types.field_type.FieldType.TheVariants as types
+use Rattle.trace_wire.specs.Limits.{greatest_u16}
 use Rattle.trace_wire.specs.Schemas.{Field, Annotation, Entry}
 use Rattle.trace_writer.specs.Calls.{bare_schema}
 
 -- a field of this name and type
 abbrev pub field : List ℕ → FieldType → Field
-field name kind = record { name = name; field_type = kind }
+field name field_type = record { name = name; field_type = field_type }
 
 -- a field, of its name and its type
 abbrev pub defined : Bor (List ℕ) × FieldType → Field
@@ -20,38 +21,38 @@ annotation index key value = record { index = index; key = key; value = value }
 
 -- ---- the schemas of the types
 
-abbrev pub fast_slot : Entry
-fast_slot = bare_schema (codes "FastSlot") []
+abbrev pub fast_slot_entry : Entry
+fast_slot_entry = bare_schema (codes "FastSlot") []
 
-abbrev pub other : Entry
-other = bare_schema (codes "Other") []
+abbrev pub other_entry : Entry
+other_entry = bare_schema (codes "Other") []
 
-abbrev pub last_slot : Entry
-last_slot = bare_schema (codes "LastSlot") (field (codes "number") types.U16 ∷ [])
+abbrev pub last_slot_entry : Entry
+last_slot_entry = bare_schema (codes "LastSlot") (field (codes "number") types.U16 ∷ [])
 
 abbrev pub annotated_entry : Entry
 annotated_entry = record {
   name = codes "Annotated";
   fields = field (codes "load") types.U8 ∷ [];
   annotations = annotation 0 (codes "unit") (codes "ns")
-      ∷ annotation 65535 (codes "") (codes "") ∷ [];
+      ∷ annotation greatest_u16 (codes "") (codes "") ∷ [];
 }
 
-abbrev pub also : Entry
-also = bare_schema (codes "Also") (field (codes "amount") types.I64 ∷ [])
+abbrev pub also_entry : Entry
+also_entry = bare_schema (codes "Also") (field (codes "amount") types.I64 ∷ [])
 
-abbrev pub nameless : Entry
-nameless = bare_schema (codes "") (field (codes "") types.Bool ∷ [])
+abbrev pub nameless_entry : Entry
+nameless_entry = bare_schema (codes "") (field (codes "") types.Bool ∷ [])
 
-abbrev pub poll : Entry
-poll = bare_schema (codes "Poll") (field (codes "worker") types.Varint ∷ field (codes "cpu") types.OptionalU32
+abbrev pub poll_entry : Entry
+poll_entry = bare_schema (codes "Poll") (field (codes "worker") types.Varint ∷ field (codes "cpu") types.OptionalU32
     ∷ field (codes "label") types.PooledString ∷ [])
 
-abbrev pub poll_again : Entry
-poll_again = bare_schema (codes "Poll") (field (codes "worker") types.Varint ∷ field (codes "core") types.U8 ∷ [])
+abbrev pub poll_again_entry : Entry
+poll_again_entry = bare_schema (codes "Poll") (field (codes "worker") types.Varint ∷ field (codes "core") types.U8 ∷ [])
 
-abbrev pub poll_annotated : Entry
-poll_annotated = record {
+abbrev pub poll_annotated_entry : Entry
+poll_annotated_entry = record {
   name = codes "Poll";
   fields = field (codes "worker") types.Varint ∷ field (codes "cpu") types.OptionalU32
       ∷ field (codes "label") types.PooledString ∷ [];
@@ -69,8 +70,8 @@ borrowed_entry = bare_schema (codes "Borrowed") (field (codes "path") types.Stri
 abbrev pub stacks_entry : Entry
 stacks_entry = bare_schema (codes "Stacks") (field (codes "frames") types.StackFrames ∷ field (codes "stack") types.PooledStackFrames ∷ [])
 
-abbrev pub dynamic : Entry
-dynamic = bare_schema (codes "Dynamic") (field (codes "items") types.DynamicList ∷ field (codes "table") types.DynamicMap ∷ [])
+abbrev pub dynamic_entry : Entry
+dynamic_entry = bare_schema (codes "Dynamic") (field (codes "items") types.DynamicList ∷ field (codes "table") types.DynamicMap ∷ [])
 
 abbrev pub numbers_entry : Entry
 numbers_entry = bare_schema (codes "Numbers") (field (codes "byte") types.U8 ∷ field (codes "short") types.U16 ∷ field (codes "word") types.U32
@@ -86,8 +87,8 @@ options_entry = bare_schema (codes "Options") (field (codes "byte") types.Option
     ∷ field (codes "stack") types.OptionalPooledStackFrames
     ∷ field (codes "pairs") types.OptionalStringMap ∷ [])
 
-abbrev pub wide : Entry
-wide = bare_schema (codes "Wide") (field (codes "v0") types.Varint ∷ field (codes "v1") types.Varint ∷ field (codes "v2") types.Varint
+abbrev pub wide_entry : Entry
+wide_entry = bare_schema (codes "Wide") (field (codes "v0") types.Varint ∷ field (codes "v1") types.Varint ∷ field (codes "v2") types.Varint
     ∷ field (codes "v3") types.Varint ∷ field (codes "v4") types.Varint ∷ field (codes "v5") types.Varint
     ∷ field (codes "v6") types.Varint ∷ field (codes "v7") types.Varint ∷ field (codes "v8") types.Varint
     ∷ field (codes "v9") types.Varint ∷ field (codes "v10") types.Varint ∷ field (codes "v11") types.Varint

@@ -28,7 +28,7 @@ new_teller manner = record { bytes = []; faults = NoFault; waiting = []; manner 
 
 -- how many bytes of a piece of this size it accepts next
 abbrev pub next_count : Teller → ℕ → ℕ
-next_count t size = min size (min t.manner.step (end_of t.manner - length t.bytes))
+next_count t size = min size (min t.manner.most (end_of t.manner - length t.bytes))
 
 -- an answer of `send` is this fault
 abbrev pub AnswersFault : Fault → Result ℕ Error → Type 0

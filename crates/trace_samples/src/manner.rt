@@ -56,7 +56,7 @@ impl Failing {
 #[derive(Clone, Copy, PartialEq, Eq, Debug)]
 pub struct Manner {
     /// The most bytes that a call of `send` accepts.
-    pub step: usize,
+    pub most: usize,
     /// Where `send` fails: after so many bytes.
     pub place: usize,
     /// How `send` fails there.
@@ -70,7 +70,7 @@ impl Manner {
 
     /// Accepts each piece whole while there is room, and settles.
     pub const SOUND: Manner = Manner {
-        step: ROOM,
+        most: ROOM,
         place: ROOM,
         failing: Failing::Never,
         settling: None,

@@ -49,7 +49,7 @@ impl TraceWrite for Told {
             return Ok(0);
         }
         let room = self.manner.end().saturating_sub(self.length);
-        let count = piece.len().min(self.manner.step.min(room));
+        let count = piece.len().min(self.manner.most.min(room));
         if count == 0 {
             return self.fail(piece);
         }

@@ -9,6 +9,7 @@ use std::io;
 /// Counts the bytes that it is given, and drops them.
 #[derive(Drop)]
 pub struct Counter {
+    /// How many bytes it was given; `u64::MAX` where they were more.
     pub bytes: u64,
 }
 

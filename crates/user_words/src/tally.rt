@@ -1,6 +1,7 @@
-//! A sink: the number of events, and their times.
+//! A sink that counts events.
 
-ghost use Rattle.std.specs.Prelude.{◌≡◌, OnOk};
+ghost use Rattle.std.specs.Prelude.{◌≡◌, None, OnOk, IfSome};
+ghost use Rattle.dial9_trace_format.specs.Words.{RunsSink, RunsAfter};
 ghost use Rattle.user_words.specs.Tallies.{tallies, TalliesAll};
 
 use dial9_trace_format::decoder::{Decoder, EventSink, RawEvent, TryForEachError};
@@ -51,7 +52,9 @@ impl<'a> EventSink<'a, Full> for Tally {
 /// `Decoder::try_for_each_event` does: `User(Full)` at an event past `u64::MAX` of them; `Decode` where bytes are left that begin with no frame,
 /// and where the decoder has failed or fails here, by `DecodeErrorKind::Conflict` or `DecodeErrorKind::OutOfMemory`.
 pub fn tally_all(decoder: &mut Decoder<'_>, tally: &mut Tally) -> Result<(), TryForEachError<Full>>
-    ensures { OnOk result (TalliesAll decoder.old decoder.new tally.old tally.new) }
+    ensures all { OnOk result (TalliesAll decoder.old decoder.new tally.old tally.new) }
+    ensures runs { decoder.old.failure ≡ None → RunsSink tallies decoder.old decoder.new tally.old tally.new result }
+    ensures again { IfSome decoder.old.failure (λ f. RunsAfter f decoder.old decoder.new tally.old tally.new result) }
 {
     laws::sinks::<Full, Tally>();
     decoder.try_for_each_event(tally)

@@ -1,4 +1,4 @@
-//! Event types with fields of each type.
+//! Event types with texts, bytes and stacks.
 
 ghost use Rattle.std.specs.Prelude.{[], refl, string_bytes, ◌∷◌, ◌≡◌};
 ghost use Rattle.trace_values.specs.Values.{bytes, pooled_stack, stack, text, texts};

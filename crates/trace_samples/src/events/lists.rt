@@ -1,8 +1,8 @@
-//! Event types with lists and maps of values, and with many fields.
+//! An event type with a list and a map of values.
 
 ghost use Rattle.std.specs.Prelude.{◌≡◌, [], ◌∷◌, refl};
 ghost use Rattle.trace_values.specs.View.{view};
-ghost use Rattle.trace_samples.specs.EventEntries.{dynamic};
+ghost use Rattle.trace_samples.specs.EventEntries.{dynamic_entry};
 
 use crate::events::definitions::{are_fields, definitions};
 use std::alloc::{AllocError, Global};
@@ -29,7 +29,7 @@ pub struct Dynamic {
 impl TraceEvent for Dynamic {
     ghost slot = { 1000 };
 
-    ghost entry = { dynamic };
+    ghost entry = { dynamic_entry };
 
     ghost time = { λ e. e.time };
 

@@ -2,7 +2,8 @@
 
 ghost use Rattle.std.specs.Prelude.{[], refl, ◌∷◌, ◌≡◌};
 ghost use Rattle.trace_values.specs.Values.{boolean, integer};
-ghost use Rattle.trace_samples.specs.EventEntries.{also, nameless, other};
+ghost use Rattle.trace_wire.specs.Limits.{first_wire_id};
+ghost use Rattle.trace_samples.specs.EventEntries.{also_entry, nameless_entry, other_entry};
 
 use crate::events::definitions::{are_fields, definitions};
 use std::alloc::{AllocError, Global};
@@ -19,9 +20,9 @@ pub struct ByName {
 }
 
 impl TraceEvent for ByName {
-    ghost slot = { 256 };
+    ghost slot = { first_wire_id };
 
-    ghost entry = { other };
+    ghost entry = { other_entry };
 
     ghost time = { λ e. e.time };
 
@@ -71,9 +72,9 @@ pub struct AlsoByName {
 }
 
 impl TraceEvent for AlsoByName {
-    ghost slot = { 256 };
+    ghost slot = { first_wire_id };
 
-    ghost entry = { also };
+    ghost entry = { also_entry };
 
     ghost time = { λ e. e.time };
 
@@ -126,7 +127,7 @@ pub struct Nameless {
 impl TraceEvent for Nameless {
     ghost slot = { 0 };
 
-    ghost entry = { nameless };
+    ghost entry = { nameless_entry };
 
     ghost time = { λ e. e.time };
 

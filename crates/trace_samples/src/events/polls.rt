@@ -5,7 +5,7 @@ ghost use Rattle.std.specs.Cmp.Lexicographic.{pointwise};
 ghost use Rattle.trace_values.specs.Values.{number, pooled_text};
 ghost use Rattle.trace_values.specs.TraceFields.{value_of_option};
 ghost use Rattle.trace_wire.specs.Schemas.{same_annotation};
-ghost use Rattle.trace_samples.specs.EventEntries.{poll, poll_again, poll_annotated};
+ghost use Rattle.trace_samples.specs.EventEntries.{poll_entry, poll_again_entry, poll_annotated_entry};
 
 use crate::events::definitions::{are_fields, definitions};
 use std::alloc::{AllocError, Global};
@@ -34,7 +34,7 @@ pub struct Poll {
 impl TraceEvent for Poll {
     ghost slot = { 0 };
 
-    ghost entry = { poll };
+    ghost entry = { poll_entry };
 
     ghost time = { λ e. e.time };
 
@@ -93,7 +93,7 @@ pub struct PollAgain {
 impl TraceEvent for PollAgain {
     ghost slot = { 0 };
 
-    ghost entry = { poll_again };
+    ghost entry = { poll_again_entry };
 
     ghost time = { λ e. e.time };
 
@@ -146,7 +146,7 @@ pub struct PollAnnotated {
 impl TraceEvent for PollAnnotated {
     ghost slot = { 0 };
 
-    ghost entry = { poll_annotated };
+    ghost entry = { poll_annotated_entry };
 
     ghost time = { λ e. e.time };
 
@@ -192,7 +192,7 @@ impl TraceEvent for PollAnnotated {
 
 /// Whether these are the annotations of `PollAnnotated`.
 fn are_poll_annotated_annotations(annotations: &[FieldAnnotation]) -> bool
-    ensures { result ≡ pointwise same_annotation annotations.now poll_annotated.annotations }
+    ensures { result ≡ pointwise same_annotation annotations.now poll_annotated_entry.annotations }
 {
     match annotations {
         [first] => is_annotation(first, 1, "unit", "index"),

@@ -3,8 +3,9 @@
 ghost use Rattle.std.specs.Prelude.{[], refl, ◌∷◌, ◌≡◌};
 ghost use Rattle.std.specs.Cmp.Lexicographic.{pointwise};
 ghost use Rattle.trace_values.specs.Values.{number};
+ghost use Rattle.trace_wire.specs.Limits.{greatest_slot};
 ghost use Rattle.trace_wire.specs.Schemas.{same_annotation};
-ghost use Rattle.trace_samples.specs.EventEntries.{annotated_entry, fast_slot, last_slot, other};
+ghost use Rattle.trace_samples.specs.EventEntries.{annotated_entry, fast_slot_entry, last_slot_entry, other_entry};
 
 use crate::events::definitions::{are_fields, definitions};
 use std::alloc::{AllocError, Global};
@@ -23,7 +24,7 @@ pub struct FastSlot {
 impl TraceEvent for FastSlot {
     ghost slot = { 5 };
 
-    ghost entry = { fast_slot };
+    ghost entry = { fast_slot_entry };
 
     ghost time = { λ e. e.time };
 
@@ -71,7 +72,7 @@ pub struct SlotClash {
 impl TraceEvent for SlotClash {
     ghost slot = { 5 };
 
-    ghost entry = { other };
+    ghost entry = { other_entry };
 
     ghost time = { λ e. e.time };
 
@@ -121,9 +122,9 @@ pub struct LastSlot {
 }
 
 impl TraceEvent for LastSlot {
-    ghost slot = { 255 };
+    ghost slot = { greatest_slot };
 
-    ghost entry = { last_slot };
+    ghost entry = { last_slot_entry };
 
     ghost time = { λ e. e.time };
 

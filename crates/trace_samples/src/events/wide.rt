@@ -4,7 +4,7 @@ ghost use Rattle.std.specs.Prelude.{[], refl, ◌∷◌, ◌≡◌};
 ghost use Rattle.std.specs.Cmp.Lexicographic.{pointwise};
 ghost use Rattle.trace_values.specs.Values.{number};
 ghost use Rattle.trace_wire.specs.Schemas.{same_field};
-ghost use Rattle.trace_samples.specs.EventEntries.{wide};
+ghost use Rattle.trace_samples.specs.EventEntries.{wide_entry};
 
 use crate::events::definitions::{are_fields, definitions};
 use std::alloc::{AllocError, Global};
@@ -67,7 +67,7 @@ pub struct Wide {
 impl TraceEvent for Wide {
     ghost slot = { 0 };
 
-    ghost entry = { wide };
+    ghost entry = { wide_entry };
 
     ghost time = { λ e. e.time };
 
@@ -133,7 +133,7 @@ impl TraceEvent for Wide {
 
 // Whether these are the fields of `Wide`.
 fn are_wide_fields(fields: &[FieldDef]) -> bool
-    ensures { result ≡ pointwise same_field fields.now wide.fields }
+    ensures { result ≡ pointwise same_field fields.now wide_entry.fields }
 {
     are_fields(fields, &WIDE_FIELDS)
 }

@@ -12,18 +12,18 @@ pub const KINDS: [Fault; 3] = [
     Fault::Zero,
 ];
 
-/// Takes so many bytes at a time, and never fails.
-pub fn stepping(step: usize) -> Manner {
+/// Takes so many bytes at most at a time, and never fails.
+pub fn stepping(most: usize) -> Manner {
     Manner {
-        step,
+        most,
         ..Manner::SOUND
     }
 }
 
-/// Takes so many bytes at a time, and fails so at this place.
-pub fn breaking(step: usize, place: usize, fault: Fault) -> Manner {
+/// Takes so many bytes at most at a time, and fails so at this place.
+pub fn breaking(most: usize, place: usize, fault: Fault) -> Manner {
     Manner {
-        step,
+        most,
         place,
         failing: Failing::Always(fault),
         settling: None,
