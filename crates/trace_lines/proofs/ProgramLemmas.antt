@@ -1,8 +1,16 @@
--- Words of a program.
-use Rattle.std.proofs.Common.{◌≡◌, ◌≤◌, ◌<◌, List, [], ◌∷◌, length, get_or, sym, ap, arith}
+-- Words of a program, and what it dumps.
+use Rattle.std.proofs.Common.{◌≡◌, ◌≤◌, ◌<◌, ◌⊎◌, inr, Bool, ℕ, List, [], ◌∷◌, length, get_or, sym, ap, subst, arith}
+use Rattle.trace_values.specs.Sending.{Account}
+use Rattle.trace_lines.specs.Dumps.{BeginsDump, PrintsUpToFault}
 
 -- one word alone
 pub one_word : {A : Type 0} (words : List A) (word : A) → 1 ≤ length words → length words < 2 → word ≡ get_or words 0 word → words ≡ word ∷ []
 one_word [] word some few is = absurd (omega (arith, some))
 one_word (w ∷ []) word some few is = ap (λ x. x ∷ []) (sym is)
 one_word (w ∷ (v ∷ words)) word some few is = absurd (omega (arith, few))
+
+-- a front of the dump of what was read
+pub front_read : (asked resolve : Bool) (held bytes : List ℕ) (old new : Account) → asked ≡ resolve → held ≡ bytes → PrintsUpToFault (BeginsDump asked held) old new
+    → PrintsUpToFault (λ written. (written ≡ []) ⊎ BeginsDump resolve bytes written) old new
+front_read asked resolve held bytes old new same read (written, begins, faults, few, took) =
+    (written, inr (subst (λ (r : Bool). BeginsDump r bytes written) same (subst (λ (h : List ℕ). BeginsDump asked h written) read begins)), faults, few, took)

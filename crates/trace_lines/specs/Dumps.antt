@@ -1,9 +1,9 @@
 -- What the dump of given bytes is: its lines, and the status that the program ends with.
-use Rattle.std.specs.Prelude.{◌≡◌, ◌⊎◌, ℕ, ◌-◌, Bool, true, false, List, [], ◌++◌, length, drop}
+use Rattle.std.specs.Prelude.{◌≡◌, ◌≤◌, ◌⊎◌, ℕ, ◌-◌, Bool, true, false, List, [], ◌++◌, length, drop}
 use Rattle.std.specs.List.{flat_map}
 use Rattle.std.specs.declared.io.ErrorKind.{ErrorKind}
 use Rattle.trace_values.specs.Values.{Kind, owned_reader, borrowed}
-use Rattle.trace_values.specs.Sending.{Account, Took}
+use Rattle.trace_values.specs.Sending.{Account, Took, TookOnly}
 use Rattle.trace_wire.specs.Schemas.{Shape}
 use Rattle.trace_wire.specs.Frames.{Grammar, empty, Frame, Schema, header_length}
 use Rattle.trace_wire.specs.Runs.{Begins, Ending, Whole, Stopped, Conflict, IsLongest, Item, items, Pools, no_pools}
@@ -100,11 +100,13 @@ form_by true = Events
 abbrev pub IsDump : Bool → List ℕ → ℕ → List ℕ → Type 0
 IsDump resolve = IsDumpAs (form_by resolve)
 
+-- bytes that a dump begins with, whichever its status is
+abbrev pub IsFrontOfDump : (ℕ → List ℕ → Type 0) → List ℕ → Type 0
+IsFrontOfDump is_dump written = (status : ℕ) × (following : List ℕ) × is_dump status (written ++ following)
+
 -- bytes that the dump of an input in a form begins with
-pub record BeginsDumpAs (form : DumpForm) (input : List ℕ) (written : List ℕ) : Type 0 where
-  pub status : ℕ
-  pub following : List ℕ
-  pub is : IsDumpAs form input status (written ++ following)
+abbrev pub BeginsDumpAs : DumpForm → List ℕ → List ℕ → Type 0
+BeginsDumpAs form input = IsFrontOfDump (IsDumpAs form input)
 
 -- bytes that the dump of an input begins with
 abbrev pub BeginsDump : Bool → List ℕ → List ℕ → Type 0
@@ -114,6 +116,7 @@ BeginsDump resolve = BeginsDumpAs (form_by resolve)
 abbrev pub Prints : (List ℕ → Type 0) → Account → Account → Type 0
 Prints is_so old new = (text : List ℕ) × is_so text × Took old new text []
 
--- the same, with whatever faults came
-abbrev pub PrintsWithFaults : (List ℕ → Type 0) → Account → Account → Type 0
-PrintsWithFaults is_so old new = (written : List ℕ) × is_so written × (faults : List ErrorKind) × Took old new written faults
+-- a text that is so went to a writer, and then one fault came, or none; nothing was handed on
+abbrev pub PrintsUpToFault : (List ℕ → Type 0) → Account → Account → Type 0
+PrintsUpToFault is_so old new =
+    (written : List ℕ) × is_so written × (faults : List ErrorKind) × (length faults ≤ 1) × TookOnly old new written faults

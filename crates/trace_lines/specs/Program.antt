@@ -5,7 +5,7 @@ use Rattle.std.specs.declared.alloc.Global.{Global}
 use Rattle.std.specs.declared.io.Error.{Error}
 use Rattle.std.specs.declared.io.ErrorKind.TheVariants.{InvalidData}
 use Rattle.trace_values.specs.Sending.{Account}
-use Rattle.trace_lines.specs.Dumps.{failed_status, IsDump, BeginsDump, Prints, PrintsWithFaults}
+use Rattle.trace_lines.specs.Dumps.{failed_status, IsDump, BeginsDump, Prints, PrintsUpToFault}
 use Rattle.trace_lines.specs.declared.program.Task.{Task}
 use Rattle.trace_lines.specs.declared.program.Task.TheVariants.{Dump, Resolve, Usage, Fail}
 
@@ -33,10 +33,10 @@ resolves task = false
 abbrev pub DumpsAll : Bool → Option (List ℕ) → Account → Account → ℕ → Type 0
 DumpsAll resolve remaining old new status = (bytes : List ℕ) → remaining ≡ Some bytes → Prints (IsDump resolve bytes status) old new
 
--- whatever came of it, nothing was written, or a front of the dump of all that the reader has left
+-- nothing was written, or a front of the dump of all that the reader has left, where it tells that; and then one fault came, or none
 abbrev pub DumpsFront : Bool → Option (List ℕ) → Account → Account → Type 0
 DumpsFront resolve remaining old new = (bytes : List ℕ) → remaining ≡ Some bytes
-    → PrintsWithFaults (λ written. (written ≡ []) ⊎ BeginsDump resolve bytes written) old new
+    → PrintsUpToFault (λ written. (written ≡ []) ⊎ BeginsDump resolve bytes written) old new
 
 -- what is told beside the dump: how to call the program, that it failed, or nothing
 abbrev pub message_for : Task → ℕ → List ℕ

@@ -80,7 +80,7 @@ pub fn carry_out<R: Read, W: TraceWrite>(
 ) -> u8
     ensures asked { task ≢ Task.Dump → task ≢ Task.Resolve → result ≡ failed_status }
     ensures same_writer { task ≢ Task.Dump → task ≢ Task.Resolve → out.new ≡ out.old }
-    ensures front { DumpsFront (resolves task) (R.remaining input.old) (W.told out.old) (W.told out.new) }
+    ensures front { result ≡ failed_status → DumpsFront (resolves task) (R.remaining input.old) (W.told out.old) (W.told out.new) }
     ensures lines { result ≢ failed_status → DumpsAll (resolves task) (R.remaining input.old) (W.told out.old) (W.told out.new) result }
     ensures settled { result ≢ failed_status → IsSettled (W.told out.new) }
     ensures known { result ≤ failed_status }
