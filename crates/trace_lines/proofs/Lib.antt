@@ -1,6 +1,7 @@
 mod HexDigits
 pub mod ProgramLemmas
 mod ValueTexts
+mod WholeValues
 mod UnknownIdTexts
 mod AppendedParts
 mod DumpLemmas

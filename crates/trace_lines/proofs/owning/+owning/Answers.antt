@@ -1,11 +1,11 @@
-use Rattle.std.proofs.Common.{ap₂, rules}
-use Rattle.trace_values.specs.Refs.{ref_view}
+use Rattle.std.proofs.Common.{ap, ap₂, ◌∙◌}
+use Rattle.trace_values.specs.Refs.{ref_view, ref_views, ref_pair_views}
 use Rattle.trace_values.specs.Values.{Value}
-use Rattle.trace_values.specs.View.{view}
+use Rattle.trace_values.specs.View.{view, views, pair_views}
 use Rattle.trace_values.specs.declared.types.borrowed.FieldValueRef.{FieldValueRef}
 use Rattle.trace_values.specs.declared.types.field_value.FieldValue.{FieldValue}
-use Rattle.trace_values.proofs.CopyLoops.{copied_more}
-use Rattle.trace_values.proofs.ListViews.{view_map, view_map_ref}
+use Rattle.trace_values.proofs.CopyLoops.{copied_more, all_copied}
+use Rattle.trace_lines.proofs.WholeValues.{texts_whole, list_whole, map_whole}
 use Rattle.trace_lines.proofs.owning.+owning.Goals as goal
 
 pub whole_values-loop-value-preserved : goal.whole_values-loop-value-preserved
@@ -19,5 +19,26 @@ whole_pairs-loop-pair-preserved t c =
     let same = ap₂ (λ (k v : Value). (k, v)) c.in-Ok-tri.ensures c.in-Ok-tri-value.ensures in
     copied_more seen asked c.loop-pair.copies.items _ (c.in-Ok-tri.field-0, c.in-Ok-tri-value.field-0) c.args.pairs.now c.loop-pair.pair-index _ c.loop-pair-test.true c.pair-item.is c.in_ok-push.ensures.items same c.loop-pair.invariant
 
+pub whole_values-loop-value-init : goal.whole_values-loop-value-init
+whole_values-loop-value-init t c = ap views c.new-copies.ensures.items
+
+pub whole_values-returns : goal.whole_values-returns
+whole_values-returns t c = all_copied view ref_view c.loop-value.copies.items c.args.values.now c.loop-value.value-index c.loop-value-test.false c.loop-value.invariant
+
+pub whole_pairs-loop-pair-init : goal.whole_pairs-loop-pair-init
+whole_pairs-loop-pair-init t c = ap pair_views c.new-copies.ensures.items
+
+pub whole_pairs-returns : goal.whole_pairs-returns
+whole_pairs-returns t c =
+    let seen : FieldValue × FieldValue → Value × Value = λ p. (view p.0, view p.1) in
+    let asked : FieldValueRef × FieldValueRef → Value × Value = λ p. (ref_view p.0, ref_view p.1) in
+    all_copied seen asked c.loop-pair.copies.items c.args.pairs.now c.loop-pair.pair-index c.loop-pair-test.false c.loop-pair.invariant
+
+pub whole_value-returns-in-Ok-tri : goal.whole_value-returns-in-Ok-tri
+whole_value-returns-in-Ok-tri t c = texts_whole c.in-Ok-tri.field-0 c.in-StringMap.pairs c.args.value.now c.in-StringMap.is c.in-Ok-tri.ensures
+
+pub whole_value-returns-in-Ok-tri-2 : goal.whole_value-returns-in-Ok-tri-2
+whole_value-returns-in-Ok-tri-2 t c = list_whole c.in-Ok-tri-2.field-0 c.in-List.items c.args.value.now c.in-List.is (c.in-Ok-tri-2.ensures ∙ ap ref_views c.items_of.ensures)
+
 pub whole_value-returns-in-Ok-tri-3 : goal.whole_value-returns-in-Ok-tri-3
-whole_value-returns-in-Ok-tri-3 t c = search (rules, view_map, view_map_ref)
+whole_value-returns-in-Ok-tri-3 t c = map_whole c.in-Ok-tri-3.field-0 c.in-Map.pairs c.args.value.now c.in-Map.is (c.in-Ok-tri-3.ensures ∙ ap ref_pair_views c.pairs_of.ensures)
