@@ -1,5 +1,5 @@
 -- Values in memory of their own, with all that they hold.
-use Rattle.std.proofs.Common.{◌≡◌, ℕ, List, Vec, Global, rules, sym, ap, ◌∙◌}
+use Rattle.std.proofs.Common.{◌≡◌, ℕ, List, Vec, Global, sym, ap, ◌∙◌}
 use Rattle.trace_values.specs.Values.{Value, texts, list, map}
 use Rattle.trace_values.specs.Reading.{values_to_items, values_to_pairs}
 use Rattle.trace_values.specs.RawViews.{string_map_view}
@@ -9,16 +9,14 @@ use Rattle.trace_values.specs.declared.types.field_value.FieldValue.{FieldValue}
 use Rattle.trace_values.specs.declared.types.field_value.FieldValue.TheVariants.{StringMap as StringMapValue}
 use Rattle.trace_values.specs.declared.types.field_value.FieldValue.TheViews.{List as ListValue, Map as MapValue}
 use Rattle.trace_values.specs.declared.types.string_map_ref.StringMapRef.{StringMapRef}
-use Rattle.trace_values.specs.declared.types.borrowed.FieldValueRef.{FieldValueRef, the_lemmas as ref_lemmas}
+use Rattle.trace_values.specs.declared.types.borrowed.FieldValueRef.{FieldValueRef}
 use Rattle.trace_values.specs.declared.types.borrowed.FieldValueRef.TheVariants.{StringMap as StringMapRefValue}
 use Rattle.trace_values.specs.declared.types.borrowed.FieldValueRef.TheViews.{List as ListRef, Map as MapRef}
 use Rattle.trace_values.specs.declared.types.borrowed.DynamicListRef.{DynamicListRef}
 use Rattle.trace_values.specs.declared.types.borrowed.DynamicMapRef.{DynamicMapRef}
 use Rattle.trace_values.proofs.ListViews.{view_list, view_map, view_list_ref, view_map_ref}
 use Rattle.trace_values.proofs.ValueViews.{view_texts}
-
-view_texts_ref : (m : StringMapRef) → ref_view (StringMapRefValue m) ≡ texts (string_map_view m)
-view_texts_ref m = search (rules, ref_lemmas)
+use Rattle.trace_values.proofs.FlatForms.{view_texts_ref}
 
 pub texts_whole : (ps : Vec (Vec ℕ Global × Vec ℕ Global) Global) (m : StringMapRef) (from : FieldValueRef) → from ≡ StringMapRefValue m → text_pairs_view ps.items ≡ string_map_view m → view (StringMapValue ps) ≡ ref_view from
 texts_whole ps m from is same = view_texts ps ∙ ap texts same ∙ sym (view_texts_ref m) ∙ ap ref_view (sym is)
