@@ -11,3 +11,4 @@ mod HeldLines
 mod EventLines
 mod RawPairs
 mod StatusLemmas
+mod PartSizes
