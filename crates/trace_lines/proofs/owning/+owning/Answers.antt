@@ -5,8 +5,8 @@ use Rattle.trace_values.specs.View.{view, views, pair_views}
 use Rattle.trace_values.specs.declared.types.borrowed.FieldValueRef.{FieldValueRef}
 use Rattle.trace_values.specs.declared.types.field_value.FieldValue.{FieldValue}
 use Rattle.trace_values.proofs.CopyLoops.{copied_more, all_copied}
-use Rattle.dial9_trace_format.proofs.BorrowedSizes.{key_ref_in, ref_in, value_holds_ref_pairs, value_holds_refs, value_ref_in}
-use Rattle.dial9_trace_format.proofs.ResolvedSizes.{falls_2, steps_2}
+use Rattle.trace_values.proofs.RefSizes.{key_ref_in, ref_in, value_holds_ref_pairs, value_holds_refs, value_ref_in}
+use Rattle.trace_values.proofs.ValueSizes.{falls_2, steps_2}
 use Rattle.trace_lines.proofs.WholeValues.{texts_whole, list_whole, map_whole}
 use Rattle.trace_lines.proofs.owning.+owning.Goals as goal
 

@@ -3,8 +3,8 @@ use Rattle.trace_values.specs.View.{view}
 use Rattle.trace_values.proofs.ListViews.{view_list, view_map}
 use Rattle.trace_values.proofs.ValueViews.{view_float, view_boolean, view_bytes, view_pooled_text, view_stack, view_pooled_stack, view_number, view_texts}
 use Rattle.trace_values.specs.declared.types.field_value.FieldValue.{FieldValue, size-FieldValue}
-use Rattle.dial9_trace_format.proofs.ResolvedSizes.{falls_3, left_below, right_below, steps_3}
-use Rattle.trace_lines.proofs.PartSizes.{first_in, list_holds_items, map_holds_pairs, other_in, pair_size}
+use Rattle.trace_values.proofs.ValueSizes.{falls_3, left_below, list_holds_items, map_holds_pairs, pair_size, right_below, steps_3}
+use Rattle.trace_lines.proofs.PartSizes.{first_in, other_in}
 use Rattle.trace_lines.specs.Lines.{value_text}
 use Rattle.trace_lines.proofs.AppendedParts.{in_three, listed_empty, listed_none, listed_more, listed_all, keyed}
 use Rattle.trace_lines.proofs.ValueTexts.{text_of_list, text_of_map, shown_as}
