@@ -1,7 +1,7 @@
 -- Words of a program, and what it dumps.
 use Rattle.std.proofs.Common.{◌≡◌, ◌≤◌, ◌<◌, ◌⊎◌, inr, Bool, ℕ, List, [], ◌∷◌, length, get_or, sym, ap, subst, arith}
 use Rattle.trace_values.specs.Sending.{Account}
-use Rattle.trace_lines.specs.Dumps.{BeginsDump, PrintsUpToFault}
+use Rattle.trace_lines.specs.Dumps.{BeginsDump, IsDump, Prints, PrintsUpToFault}
 
 -- one word alone
 pub one_word : {A : Type 0} (words : List A) (word : A) → 1 ≤ length words → length words < 2 → word ≡ get_or words 0 word → words ≡ word ∷ []
@@ -14,3 +14,9 @@ pub front_read : (asked resolve : Bool) (held bytes : List ℕ) (old new : Accou
     → PrintsUpToFault (λ written. (written ≡ []) ⊎ BeginsDump resolve bytes written) old new
 front_read asked resolve held bytes old new same read (written, begins, faults, few, took) =
     (written, inr (subst (λ (r : Bool). BeginsDump r bytes written) same (subst (λ (h : List ℕ). BeginsDump asked h written) read begins)), faults, few, took)
+
+-- the dump of all that was read
+pub all_read : (asked resolve : Bool) (held bytes : List ℕ) (old new : Account) (status : ℕ) → asked ≡ resolve → held ≡ bytes → Prints (IsDump asked held status) old new
+    → Prints (IsDump resolve bytes status) old new
+all_read asked resolve held bytes old new status same read prints =
+    subst (λ (r : Bool). Prints (IsDump r bytes status) old new) same (subst (λ (h : List ℕ). Prints (IsDump asked h status) old new) read prints)
