@@ -22,17 +22,11 @@ pub fn push_quoted(out: &mut String, bytes: &[u8]) -> Result<(), AllocError>
 }
 
 /// Appends addresses in brackets (docs/FORMAT.md, "Dumps"). `AllocError` where a growth was refused.
-#[tactic(auto, unfolding(crate::specs::Lines::address_list))]
 pub fn push_addresses(out: &mut String, addresses: &[u64]) -> Result<(), AllocError>
     ensures { AppendsText (address_list addresses.now) out.old out.new result }
 {
-    tri!(out.push('['));
-    if let Some((first, others)) = addresses.split_first() {
-        tri!(write!(out, "0x{first:x}"));
-        for address in others {
-            tri!(write!(out, ",0x{address:x}"));
-        }
-    }
+    tri!(out.push_str("["));
+    tri!(push_each_address(out, addresses));
     out.push(']')
 }
 
@@ -42,6 +36,27 @@ pub fn push_sixteen_digits(out: &mut String, number: u64) -> Result<(), AllocErr
     ensures { AppendsText (sixteen_digits number) out.old out.new result }
 {
     write!(out, "{number:016x}")
+}
+
+// Appends addresses, with commas between them.
+fn push_each_address(out: &mut String, addresses: &[u64]) -> Result<(), AllocError>
+    ensures { AppendsText (join_by address_text (codes ",") addresses.now) out.old out.new result }
+{
+    let Some((first, others)) = addresses.split_first() else {
+        return Ok(());
+    };
+    tri!(push_address(out, *first));
+    for address in others {
+        tri!(out.push(','));
+        tri!(push_address(out, *address));
+    }
+    Ok(())
+}
+
+fn push_address(out: &mut String, address: u64) -> Result<(), AllocError>
+    ensures { AppendsText (address_text address) out.old out.new result }
+{
+    write!(out, "0x{address:x}")
 }
 
 // Appends a byte as it stands between quotes.
