@@ -1,14 +1,14 @@
 mod HexDigits
-pub mod ProgramLemmas
+pub mod WordsAndReadings
 mod ValueTexts
-mod WholeValues
 mod UnknownIdTexts
 mod AppendedParts
-mod DumpLemmas
-mod SendsLemmas
-mod DumpPlaces
+mod DumpsGoOn
+mod DumpsSentInParts
+mod DumpsAtPlaces
 mod HeldLines
 mod EventLines
 mod RawPairs
-mod StatusLemmas
-mod PartSizes
+mod DumpStatuses
+mod JoinedLists
+mod Depths

@@ -9,15 +9,16 @@ use Rattle.trace_wire.specs.Frames.{Grammar, empty, Frame, Schema, header_length
 use Rattle.trace_wire.specs.Runs.{Begins, Ending, Whole, Stopped, Conflict, IsLongest, Item, items, Pools, no_pools}
 use Rattle.dial9_trace_format.specs.Decoding.{StartsWith, IsHeadless}
 use Rattle.dial9_trace_format.specs.Sinks.{events_of}
-use Rattle.trace_lines.specs.Lines.{line, item_line, first_line, no_header_line, whole_line, stopped_line, conflict_line}
+use Rattle.trace_lines.specs.Lines.{line, item_line, first_line, no_header_line, whole_line, stopped_line}
+use Rattle.trace_lines.specs.Lines.{conflict_line}
 use Rattle.trace_lines.specs.ResolvedLines.{event_lines}
 use Rattle.trace_lines.specs.declared.dump.DumpForm.{DumpForm}
 use Rattle.trace_lines.specs.declared.dump.DumpForm.TheVariants.{Frames, Events}
 use Rattle.trace_lines.specs.declared.dump.Reader.{Reader}
 use Rattle.trace_lines.specs.declared.dump.Reader.TheVariants.{Owned, Borrowed}
 
--- what the program ends with: where the trace is whole, where no header stands, where it stops inside, at a conflict of schemas, and
--- where memory, the input or the output failed
+-- what the program ends with: where the trace is whole, where no header stands, where it stops inside, at a conflict of
+-- schemas, and where memory, the input or the output failed
 abbrev pub whole_status : ℕ
 whole_status = 0
 
@@ -47,7 +48,8 @@ kind_of_form Events = borrowed
 abbrev pub item_lines : List Item → List ℕ
 item_lines shown = flat_map (λ i. line (item_line i)) shown
 
--- the lines of frames that are read one after another, in a state and with pools: of each item, or of each event, resolved
+-- the lines of frames that are read one after another, in a state and with pools: of each item, or of each event,
+-- resolved
 abbrev pub frame_lines : DumpForm → Grammar → Pools → List Frame → List ℕ
 frame_lines (Frames reader) g p frames = item_lines (items frames)
 frame_lines Events g p frames = event_lines (events_of g p frames)
@@ -58,12 +60,14 @@ abbrev pub IsEnd : Kind → ℕ → Grammar → List ℕ → Ending → ℕ → 
 IsEnd k size last rest Whole status text = (status ≡ whole_status) × (text ≡ whole_line)
 IsEnd k size last rest Stopped status text = (status ≡ stopped_status) × (text ≡ stopped_line (size - length rest))
 IsEnd k size last rest Conflict status text =
-    (id : ℕ) × (shape : Shape) × (after : List ℕ) × Begins k last rest (Schema id shape) after × (status ≡ conflict_status)
+    (id : ℕ) × (shape : Shape) × (after : List ℕ) × Begins k last rest (Schema id shape) after
+    × (status ≡ conflict_status)
     × (text ≡ conflict_line (size - length after) id)
 
--- the lines after the first, of bytes that end an input of a size, in a state and with pools: those of the longest run of the
--- reader, and of its end
-pub record IsDumpFrom (form : DumpForm) (g : Grammar) (p : Pools) (size : ℕ) (bytes : List ℕ) (status : ℕ) (text : List ℕ) : Type 0 where
+-- the lines after the first, of bytes that end an input of a size, in a state and with pools: those of the longest run
+-- of the reader, and of its end
+pub record IsDumpFrom (form : DumpForm) (g : Grammar) (p : Pools) (size : ℕ) (bytes : List ℕ) (status : ℕ)
+    (text : List ℕ) : Type 0 where
   pub frames : List Frame
   pub rest : List ℕ
   pub end : Ending
@@ -119,4 +123,5 @@ Prints is_so old new = (text : List ℕ) × is_so text × Took old new text []
 -- a text that is so went to a writer, and then one fault came, or none; nothing was handed on
 abbrev pub PrintsUpToFault : (List ℕ → Type 0) → Account → Account → Type 0
 PrintsUpToFault is_so old new =
-    (written : List ℕ) × is_so written × (faults : List ErrorKind) × (length faults ≤ 1) × TookOnly old new written faults
+    (written : List ℕ) × is_so written × (faults : List ErrorKind) × (length faults ≤ 1)
+    × TookOnly old new written faults

@@ -1,5 +1,6 @@
 pub mod Appending
 pub mod Lines
+pub mod Holding
 pub mod ResolvedLines
 pub mod Dumps
 pub mod Sent

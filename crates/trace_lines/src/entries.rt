@@ -1,4 +1,5 @@
-//! Entries of pools, and annotations, as they stand in a line. Each function answers `AllocError` where a growth was refused.
+//! Entries of pools, and annotations, as they stand in a line. Each function answers `AllocError` where a growth was
+//! refused.
 
 ghost use Rattle.std.specs.Prelude.{codes};
 ghost use Rattle.trace_wire.specs.PoolEntries.{string_entry_of, stack_entry_of};
@@ -6,18 +7,19 @@ ghost use Rattle.trace_lines.specs.Appending.{AppendsText};
 ghost use Rattle.trace_lines.specs.Lines.{string_entry_text, stack_entry_text, annotation_text};
 
 use crate::text::{push_addresses, push_quoted};
+use crate::text_maps::push_text_pair;
 use std::alloc::AllocError;
-use trace_values::tri;
 use trace_wire::codec::{PoolEntry, StackPoolEntry};
 use trace_wire::schema::FieldAnnotation;
 
-/// Appends an entry of a string pool after a space: its id and its bytes, which need not be text. `AllocError` where a growth was refused.
+/// Appends an entry of a string pool after a space: its id and its bytes, which need not be text. `AllocError` where a
+/// growth was refused.
 #[tactic(auto, unfolding(crate::specs::Lines::string_entry_text))]
 pub fn push_string_entry(out: &mut String, entry: &PoolEntry) -> Result<(), AllocError>
     ensures { AppendsText (string_entry_text (string_entry_of entry.now)) out.old out.new result }
 {
     let id = entry.pool_id;
-    tri!(write!(out, " {id}:"));
+    write!(out, " {id}:")?;
     push_quoted(out, &entry.bytes)
 }
 
@@ -27,18 +29,21 @@ pub fn push_stack_entry(out: &mut String, entry: &StackPoolEntry) -> Result<(), 
     ensures { AppendsText (stack_entry_text (stack_entry_of entry.now)) out.old out.new result }
 {
     let id = entry.pool_id;
-    tri!(write!(out, " {id}:"));
+    write!(out, " {id}:")?;
     push_addresses(out, &entry.frames)
 }
 
-/// Appends an annotation after a space: the index of its field, its key and its value. `AllocError` where a growth was refused.
+/// Appends an annotation after a space: the index of its field, its key and its value. `AllocError` where a growth was
+/// refused.
 #[tactic(auto, unfolding(crate::specs::Lines::annotation_text))]
 pub fn push_annotation(out: &mut String, annotation: &FieldAnnotation) -> Result<(), AllocError>
     ensures { AppendsText (annotation_text annotation.now) out.old out.new result }
 {
     let index = annotation.field_index();
-    tri!(write!(out, " {index}:"));
-    tri!(push_quoted(out, annotation.key().as_bytes()));
-    tri!(out.push('='));
-    push_quoted(out, annotation.value().as_bytes())
+    write!(out, " {index}:")?;
+    push_text_pair(
+        out,
+        annotation.key().as_bytes(),
+        annotation.value().as_bytes(),
+    )
 }

@@ -1,12 +1,13 @@
 //! The lines that tell what a trace holds (docs/FORMAT.md, "Dumps").
 #![tactic(auto)]
 
+mod borrowed;
 pub mod dump;
 mod entries;
 mod lines;
-mod owning;
 mod plain;
 pub mod program;
 mod resolved;
 pub mod text;
+mod text_maps;
 pub mod value;

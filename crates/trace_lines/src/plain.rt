@@ -1,13 +1,13 @@
-//! Values that hold no others, as they stand in a line: the name of the kind, and what the value is (docs/FORMAT.md, "Dumps"). Each function
-//! answers `AllocError` where a growth was refused.
+//! Values that hold no others, as they stand in a line: the name of the kind, and what the value is (docs/FORMAT.md,
+//! "Dumps"). Each function answers `AllocError` where a growth was refused.
 
-ghost use Rattle.trace_values.specs.Values.{integer, float, boolean, number, text, bytes, stack, pooled_text, pooled_stack};
+ghost use Rattle.trace_values.specs.Values.{integer, float, boolean, number, text, bytes, stack, pooled_text};
+ghost use Rattle.trace_values.specs.Values.{pooled_stack};
 ghost use Rattle.trace_lines.specs.Appending.{AppendsText};
 ghost use Rattle.trace_lines.specs.Lines.{value_text};
 
 use crate::text::{push_addresses, push_quoted, push_sixteen_digits};
 use std::alloc::AllocError;
-use trace_values::tri;
 use trace_values::types::{InternedStackFrames, InternedString};
 
 /// Appends a signed number.
@@ -21,7 +21,7 @@ pub fn push_integer(out: &mut String, number: i64) -> Result<(), AllocError>
 pub fn push_float(out: &mut String, bits: u64) -> Result<(), AllocError>
     ensures { AppendsText (value_text (float bits)) out.old out.new result }
 {
-    tri!(out.push_str("F64:0x"));
+    out.push_str("F64:0x")?;
     push_sixteen_digits(out, bits)
 }
 
@@ -43,7 +43,7 @@ pub fn push_number(out: &mut String, held: u64) -> Result<(), AllocError>
 pub fn push_text(out: &mut String, characters: &[u8]) -> Result<(), AllocError>
     ensures { AppendsText (value_text (text characters.now)) out.old out.new result }
 {
-    tri!(out.push_str("String:"));
+    out.push_str("String:")?;
     push_quoted(out, characters)
 }
 
@@ -51,7 +51,7 @@ pub fn push_text(out: &mut String, characters: &[u8]) -> Result<(), AllocError>
 pub fn push_bytes(out: &mut String, held: &[u8]) -> Result<(), AllocError>
     ensures { AppendsText (value_text (bytes held.now)) out.old out.new result }
 {
-    tri!(out.push_str("Bytes:"));
+    out.push_str("Bytes:")?;
     push_quoted(out, held)
 }
 
@@ -59,7 +59,7 @@ pub fn push_bytes(out: &mut String, held: &[u8]) -> Result<(), AllocError>
 pub fn push_stack(out: &mut String, addresses: &[u64]) -> Result<(), AllocError>
     ensures { AppendsText (value_text (stack addresses.now)) out.old out.new result }
 {
-    tri!(out.push_str("StackFrames:"));
+    out.push_str("StackFrames:")?;
     push_addresses(out, addresses)
 }
 

@@ -1,5 +1,5 @@
-//! The program `tracedump` (docs/FORMAT.md, "Dumps"): reads a trace from standard input, and writes the lines of what it
-//! holds to standard output. Programs call `run`, which decides nothing by itself.
+//! The program `tracedump` (docs/FORMAT.md, "Dumps"): reads a trace from standard input, and writes the lines of what
+//! it holds to standard output. Programs call `run`, which decides nothing by itself.
 
 ghost use Rattle.std.specs.Prelude.{◌≡◌, ◌≢◌, ◌≤◌};
 ghost use Rattle.std.specs.Process.{exit_status};
@@ -14,7 +14,6 @@ use std::process::ExitCode;
 use std::rt::Env;
 use std::{env, io};
 use trace_values::leb128::{Plain, TraceWrite};
-use trace_values::tri;
 
 /// What a program is asked for.
 #[derive(Clone, Copy, PartialEq, Eq)]
@@ -43,12 +42,12 @@ pub fn run(rt: &(impl AllocGlobal + Env + Input + Print + Eprint)) -> ExitCode
 
 // The words after the program's name.
 fn words_of(rt: &(impl AllocGlobal + Env)) -> io::Result<Vec<String>> {
-    let arguments = tri!(env::args(rt));
+    let arguments = env::args(rt)?;
     Ok(arguments.skip(1).collect(rt.alloc())?)
 }
 
-/// What the words after the program's name ask for, or why they could not be read. No word asks for the dump, the one word `--resolve` for
-/// the events; all else, also a word that is not UTF-8, for the usage.
+/// What the words after the program's name ask for, or why they could not be read. No word asks for the dump, the one
+/// word `--resolve` for the events; all else, also a word that is not UTF-8, for the usage.
 pub fn task_of(words: io::Result<Vec<String>>) -> Task
     ensures { AsksFor words result }
 {
@@ -69,9 +68,9 @@ fn task_of_words(words: &[String]) -> Task
     }
 }
 
-/// Does what is asked for, and answers the status: that of the dump of all that the input has left. `FAILED` where no dump
-/// is asked for, where the input could not be read to its end, where a growth was refused, and where the writer failed: then
-/// nothing was written, or a front of the dump.
+/// Does what is asked for, and answers the status: that of the dump of all that the input has left. `FAILED` where no
+/// dump is asked for, where the input could not be read to its end, where a growth was refused, and where the writer
+/// failed: then nothing was written, or a front of the dump.
 pub fn carry_out<R: Read, W: TraceWrite>(
     alloc: Global,
     task: Task,
@@ -80,8 +79,11 @@ pub fn carry_out<R: Read, W: TraceWrite>(
 ) -> u8
     ensures asked { task ≢ Task.Dump → task ≢ Task.Resolve → result ≡ failed_status }
     ensures same_writer { task ≢ Task.Dump → task ≢ Task.Resolve → out.new ≡ out.old }
-    ensures front { result ≡ failed_status → DumpsFront (resolves task) (R.remaining input.old) (W.told out.old) (W.told out.new) }
-    ensures lines { result ≢ failed_status → DumpsAll (resolves task) (R.remaining input.old) (W.told out.old) (W.told out.new) result }
+    ensures front { result ≡ failed_status
+        → DumpsFront (resolves task) (R.remaining input.old) (W.told out.old) (W.told out.new) }
+    ensures lines { result ≢ failed_status
+        → DumpsAll (resolves task) (R.remaining input.old) (W.told out.old) (W.told out.new)
+        result }
     ensures settled { result ≢ failed_status → IsSettled (W.told out.new) }
     ensures known { result ≤ failed_status }
 {

@@ -1,22 +1,23 @@
-//! Names, texts and addresses as they stand in a line. Functions that append answer `AllocError` where a growth was refused.
+//! Names, texts and addresses as they stand in a line. Functions that append answer `AllocError` where a growth was
+//! refused.
 
 ghost use Rattle.std.specs.Prelude.{codes};
 ghost use Rattle.std.specs.List.{join_by};
 ghost use Rattle.trace_values.specs.AddressTexts.{address_text};
 ghost use Rattle.trace_lines.specs.Appending.{AppendsText};
-ghost use Rattle.trace_lines.specs.Lines.{escaped_byte, quoted_byte, quoted, address_list, sixteen_digits};
+ghost use Rattle.trace_lines.specs.Lines.{escaped_byte, quoted_byte, quoted, address_list, comma_before};
+ghost use Rattle.trace_lines.specs.Lines.{sixteen_digits};
 
 use std::alloc::AllocError;
-use trace_values::tri;
 
 /// Appends bytes in quotes (docs/FORMAT.md, "Dumps"). `AllocError` where a growth was refused.
 #[tactic(auto, unfolding(crate::specs::Lines::quoted))]
 pub fn push_quoted(out: &mut String, bytes: &[u8]) -> Result<(), AllocError>
     ensures { AppendsText (quoted bytes.now) out.old out.new result }
 {
-    tri!(out.push('"'));
+    out.push('"')?;
     for byte in bytes {
-        tri!(push_quoted_byte(out, *byte));
+        push_quoted_byte(out, *byte)?;
     }
     out.push('"')
 }
@@ -25,8 +26,8 @@ pub fn push_quoted(out: &mut String, bytes: &[u8]) -> Result<(), AllocError>
 pub fn push_addresses(out: &mut String, addresses: &[u64]) -> Result<(), AllocError>
     ensures { AppendsText (address_list addresses.now) out.old out.new result }
 {
-    tri!(out.push_str("["));
-    tri!(push_each_address(out, addresses));
+    out.push_str("[")?;
+    push_each_address(out, addresses)?;
     out.push(']')
 }
 
@@ -38,17 +39,21 @@ pub fn push_sixteen_digits(out: &mut String, number: u64) -> Result<(), AllocErr
     write!(out, "{number:016x}")
 }
 
+/// Appends a comma before the element of an index, but before the first nothing. `AllocError` where a growth was
+/// refused.
+pub(crate) fn push_comma_before(out: &mut String, index: usize) -> Result<(), AllocError>
+    ensures { AppendsText (comma_before index) out.old out.new result }
+{
+    if index == 0 { Ok(()) } else { out.push(',') }
+}
+
 // Appends addresses, with commas between them.
 fn push_each_address(out: &mut String, addresses: &[u64]) -> Result<(), AllocError>
     ensures { AppendsText (join_by address_text (codes ",") addresses.now) out.old out.new result }
 {
-    let Some((first, others)) = addresses.split_first() else {
-        return Ok(());
-    };
-    tri!(push_address(out, *first));
-    for address in others {
-        tri!(out.push(','));
-        tri!(push_address(out, *address));
+    'addresses: for (index, address) in addresses.iter().enumerate() {
+        push_comma_before(out, index)?;
+        push_address(out, *address)?;
     }
     Ok(())
 }

@@ -11,4 +11,5 @@ annotation_part a = codes " @" ++ decimal a.index ++ codes ":" ++ pair_text (str
 
 -- the name, then each field and each annotation
 unfoldable pub definition_text : Definition → List ℕ
-definition_text d = quoted (string_bytes d.name) ++ flat_map field_text d.fields.items ++ flat_map annotation_part d.annotations.items
+definition_text d =
+    quoted (string_bytes d.name) ++ flat_map field_text d.fields.items ++ flat_map annotation_part d.annotations.items

@@ -28,7 +28,8 @@ ShowsDump form trace lines (LeftOut name) = ⊥
 ShowsDump form trace lines (Compared differences) = (status : ℕ) × (text : List ℕ) × IsDumpAs form trace status text
     × ((differences.items ≡ []) ↔ (ended lines ≡ text))
 
--- the script was played, and no difference is told exactly where the trace and the recorded replies are what its calls make
+-- the script was played, and no difference is told exactly where the trace and the recorded replies are what its calls
+-- make
 pub record ShowsPlayed (trace : List ℕ) (calls : Calls) (differences : List (String Global)) : Type 0 where
   pub bytes : List ℕ
   pub replies : List ℕ
@@ -37,13 +38,16 @@ pub record ShowsPlayed (trace : List ℕ) (calls : Calls) (differences : List (S
 
 -- the script was not played, by an error of its own, and that is told
 abbrev pub ShowsRefused : Calls → List (String Global) → Type 0
-ShowsRefused calls differences = (error : PlayError) × IsOfScript error × RefusesScript calls.script.now error × (differences ≢ [])
+ShowsRefused calls differences =
+    (error : PlayError) × IsOfScript error × RefusesScript calls.script.now error × (differences ≢ [])
 
 -- a script was compared; or it is read whole and has a call that the library has not, of which the first has this name
 abbrev pub ShowsCalls : List ℕ → Calls → PartFinding → Type 0
 ShowsCalls trace calls Absent = ⊥
-ShowsCalls trace calls (LeftOut name) = (script : List ScriptCall) × IsScript script calls.script.now × (line : ℕ) × FirstMissing script line name.now
-ShowsCalls trace calls (Compared differences) = ShowsPlayed trace calls differences.items ⊎ ShowsRefused calls differences.items
+ShowsCalls trace calls (LeftOut name) =
+    (script : List ScriptCall) × IsScript script calls.script.now × (line : ℕ) × FirstMissing script line name.now
+ShowsCalls trace calls (Compared differences) =
+    ShowsPlayed trace calls differences.items ⊎ ShowsRefused calls differences.items
 
 -- the same of a recording, which may have no script
 abbrev pub ShowsScript : List ℕ → Option Calls → PartFinding → Type 0
@@ -71,13 +75,15 @@ borrowed_lines (Some lines) dump = lines.now
 -- the same of the dump of the borrowed reader
 abbrev pub ShowsBorrowed : List ℕ → List ℕ → Option Readings → PartFinding → Type 0
 ShowsBorrowed trace dump None outcome = outcome ≡ Absent
-ShowsBorrowed trace dump (Some readings) outcome = ShowsDump (Frames Borrowed) trace (borrowed_lines readings.borrowed dump) outcome
+ShowsBorrowed trace dump (Some readings) outcome =
+    ShowsDump (Frames Borrowed) trace (borrowed_lines readings.borrowed dump) outcome
 
 -- no difference is told exactly where the recorded lines are what a sink is given of the trace
 abbrev pub ShowsSinkLines : List ℕ → List ℕ → PartFinding → Type 0
 ShowsSinkLines trace lines Absent = ⊥
 ShowsSinkLines trace lines (LeftOut name) = ⊥
-ShowsSinkLines trace lines (Compared differences) = (text : List ℕ) × IsSinkText trace text × ((differences.items ≡ []) ↔ (ended lines ≡ text))
+ShowsSinkLines trace lines (Compared differences) =
+    (text : List ℕ) × IsSinkText trace text × ((differences.items ≡ []) ↔ (ended lines ≡ text))
 
 -- the same, where its lines were recorded
 abbrev pub ShowsSink : List ℕ → Option Readings → PartFinding → Type 0

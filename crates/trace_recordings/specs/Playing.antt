@@ -1,5 +1,6 @@
 -- What playing a script makes.
-use Rattle.std.specs.Prelude.{◌≡◌, ◌≢◌, ⊤, ℕ, Bool, true, false, List, [], ◌∷◌, ◌++◌, length, Option, Some, None, IsSome, Result, Ok, Err, Vec, map, codes, decimal, string_bytes}
+use Rattle.std.specs.Prelude.{◌≡◌, ◌≢◌, ⊤, ℕ, Bool, true, false, List, [], ◌∷◌, ◌++◌, length, Option, Some, None}
+use Rattle.std.specs.Prelude.{IsSome, Result, Ok, Err, Vec, map, codes, decimal, string_bytes}
 use Rattle.std.specs.Option.{option_map}
 use Rattle.std.specs.List.{AllByRecursion}
 use Rattle.std.specs.Ordering.{nat_cmp}
@@ -16,15 +17,19 @@ use Rattle.trace_writer.specs.declared.encoder.call.Reply.{Reply}
 use Rattle.trace_writer.specs.declared.encoder.call.Reply.TheVariants.{Done, WireId, Text, Stack, Refused}
 use Rattle.trace_writer.specs.State.{EncoderView, WriterState}
 use Rattle.std.specs.declared.alloc.Global.{Global}
-use Rattle.trace_values.specs.Sending.{telling}
-use Rattle.trace_writer.specs.Calls.{Action, Does, register, write_event, write_type, intern_string, write_string_pool, intern_stack, write_stack_pool, Answered, fresh_state, header}
+use Rattle.trace_values.specs.Sending.{telling_list}
+use Rattle.trace_writer.specs.Calls.{Action, Does, register, write_event, write_type, intern_string, write_string_pool}
+use Rattle.trace_writer.specs.Calls.{intern_stack, write_stack_pool, Answered, fresh_state, header}
 use Rattle.trace_writer.specs.CallLists.{Plays}
 use Rattle.trace_writer.specs.Headline.{AreFaultless, IsRead, frames_played}
 use Rattle.trace_writer.specs.Resume.{IsResumed}
 use Rattle.dial9_trace_format.specs.Decoding.{DecoderState, DecodesAll}
 use Rattle.dial9_trace_format.specs.Decodings.{IsOpened}
 use Rattle.trace_recordings.specs.declared.script.call.ScriptCall.{ScriptCall}
-use Rattle.trace_recordings.specs.declared.script.call.ScriptCall.TheVariants.{Nothing, Define, Register, Event, DefineType, WriteTyped, InternString, InternStack, StringPool, StackPool, Reset, Resume, Raw, Bare}
+use Rattle.trace_recordings.specs.declared.script.call.ScriptCall.TheVariants.{Nothing, Define, Register, Event}
+use Rattle.trace_recordings.specs.declared.script.call.ScriptCall.TheVariants.{DefineType, WriteTyped, InternString}
+use Rattle.trace_recordings.specs.declared.script.call.ScriptCall.TheVariants.{InternStack, StringPool, StackPool}
+use Rattle.trace_recordings.specs.declared.script.call.ScriptCall.TheVariants.{Reset, Resume, Raw, Bare}
 use Rattle.trace_recordings.specs.declared.script.definitions.ScriptAnnotation.{ScriptAnnotation}
 use Rattle.trace_recordings.specs.declared.script.definitions.Definition.{Definition}
 use Rattle.trace_recordings.specs.declared.script.pools.PoolText.{PoolText}
@@ -33,11 +38,11 @@ use Rattle.trace_recordings.specs.declared.player.LineReply.{LineReply}
 use Rattle.trace_recordings.specs.declared.player.LineReply.TheVariants as line_replies
 use Rattle.trace_recordings.specs.declared.player.Handles.{Handles}
 use Rattle.trace_recordings.specs.declared.player.Player.{Player}
-use Rattle.trace_recordings.specs.declared.typed.Sample.{Sample}
+use Rattle.trace_recordings.specs.declared.typed.SampleType.{SampleType}
 use Rattle.trace_recordings.specs.declared.player.PlayError.{PlayError}
 use Rattle.trace_recordings.specs.declared.player.PlayError.TheVariants as plays
 use Rattle.trace_recordings.specs.declared.script.line_error.LineError.TheVariants as line_errors
-use Rattle.trace_recordings.specs.Samples.{entry_in, is_sample, slot_of}
+use Rattle.trace_recordings.specs.Samples.{is_sample}
 use Rattle.trace_recordings.specs.Scripts.{IsScript}
 
 -- the error is the script's, and not want of memory
@@ -92,7 +97,8 @@ annotation_of a = record { index = a.index; key = string_bytes a.key; value = st
 
 -- the schema that a definition says
 abbrev pub defined_entry : Definition → schemas.Entry
-defined_entry d = record { name = string_bytes d.name; fields = d.fields.items; annotations = map annotation_of d.annotations.items }
+defined_entry d =
+    record { name = string_bytes d.name; fields = d.fields.items; annotations = map annotation_of d.annotations.items }
 
 abbrev pub pool_text_of : PoolText → ℕ × List ℕ
 pool_text_of e = (e.id, e.bytes.items)
@@ -103,7 +109,7 @@ pool_stack_of e = (e.id, e.frames.items)
 -- what a script defined, by its handles
 pub record Defined : Type 0 where
   pub schemas : List (ℕ × schemas.Entry)
-  pub types : List (ℕ × Sample)
+  pub types : List (ℕ × SampleType)
 
 abbrev pub defined_in : Handles → Defined
 defined_in h = record { schemas = h.schemas.entries; types = h.types.entries }
@@ -115,9 +121,10 @@ under defined handle = lookup (is_at (nat_cmp handle)) defined
 -- what a call asks of an encoder, after these definitions
 abbrev pub action_asked : Defined → ScriptCall → Option Action
 action_asked defined (Register handle) = option_map (λ e. register e) (under defined.schemas handle)
-action_asked defined (Event handle time values) = option_map (λ e. write_event e time (views values.items)) (under defined.schemas handle)
-action_asked defined (WriteTyped handle time values) = option_map (λ s. write_type (slot_of s) (entry_in s) time (views values.items))
-    (under defined.types handle)
+action_asked defined (Event handle time values) =
+    option_map (λ e. write_event e time (views values.items)) (under defined.schemas handle)
+action_asked defined (WriteTyped handle time values) =
+    option_map (λ s. write_type s.slot s.schema time (views values.items)) (under defined.types handle)
 action_asked defined (InternString text) = Some (intern_string (string_bytes text))
 action_asked defined (InternStack frames) = Some (intern_stack frames.items)
 action_asked defined (StringPool entries) = Some (write_string_pool (map pool_text_of entries.items))
@@ -137,7 +144,9 @@ asks call = true
 
 -- an encoder over a list of bytes gives this answer to what a call asks of it
 abbrev pub DoesCall : Defined → EncoderView (Vec ℕ Global) → EncoderView (Vec ℕ Global) → ScriptCall → Reply → Type 0
-DoesCall defined old new call reply = (action : Action) × (action_asked defined call ≡ Some action) × Does (λ v. telling (Some v.items)) old action reply new
+DoesCall defined old new call reply =
+    (action : Action) × (action_asked defined call ≡ Some action)
+    × Does (λ v. telling_list v.items) old action reply new
 
 -- ---- the turns of a script
 
@@ -153,7 +162,13 @@ abbrev pub start : Playing
 start = record { state = fresh_state; defined = record { schemas = []; types = [] }; bytes = header; replies = [] }
 
 abbrev pub playing_of : Player → Playing
-playing_of p = record { state = p.encoder.state; defined = defined_in p.handles; bytes = p.played.bytes.items; replies = string_bytes p.played.replies }
+playing_of p =
+    record {
+      state = p.encoder.state;
+      defined = defined_in p.handles;
+      bytes = p.played.bytes.items;
+      replies = string_bytes p.played.replies;
+    }
 
 -- the line of a reply comes after the others
 abbrev pub with_reply : LineReply → Playing → Playing
@@ -161,15 +176,21 @@ with_reply reply p = record p { replies = p.replies ++ reply_line reply p.state.
 
 -- the schema of a definition stands under its handle; one that stood there before goes
 abbrev pub with_schema : ℕ → Definition → Playing → Playing
-with_schema handle definition p = record p { defined = record p.defined { schemas = insert_entry nat_cmp p.defined.schemas handle (defined_entry definition) } }
+with_schema handle definition p =
+    record p {
+      defined = record p.defined { schemas = insert_entry nat_cmp p.defined.schemas handle (defined_entry definition) };
+    }
 
--- a sample type stands under its handle; one that stood there before goes
-abbrev pub with_type : ℕ → Sample → Playing → Playing
-with_type handle sample p = record p { defined = record p.defined { types = insert_entry nat_cmp p.defined.types handle sample } }
+-- the type of a slot and a definition stands under its handle; one that stood there before goes
+abbrev pub with_type : ℕ → ℕ → Definition → Playing → Playing
+with_type handle slot definition p =
+    let sample : SampleType = record { slot = slot; schema = defined_entry definition } in
+    record p { defined = record p.defined { types = insert_entry nat_cmp p.defined.types handle sample } }
 
 -- the sample type of this slot and this schema stands under the handle
 abbrev pub DefinesType : ℕ → ℕ → Definition → Playing → Playing → Type 0
-DefinesType handle slot definition p q = (sample : Sample) × (is_sample slot (defined_entry definition) sample ≡ true) × (q ≡ with_type handle sample p)
+DefinesType handle slot definition p q =
+    (is_sample slot (defined_entry definition) ≡ true) × (q ≡ with_type handle slot definition p)
 
 -- the encoder gives this answer to what a call asks of it, and what it sends comes after the output
 pub record Asks (p : Playing) (call : ScriptCall) (reply : Reply) (q : Playing) : Type 0 where
@@ -181,7 +202,8 @@ pub record Asks (p : Playing) (call : ScriptCall) (reply : Reply) (q : Playing) 
 
 -- the encoder is asked, and the line of its reply comes after the others
 abbrev pub IsAsked : Playing → ScriptCall → Playing → Type 0
-IsAsked p call q = (reply : Reply) × (mid : Playing) × Asks p call reply mid × (q ≡ with_reply (line_replies.Replied reply) mid)
+IsAsked p call q =
+    (reply : Reply) × (mid : Playing) × Asks p call reply mid × (q ≡ with_reply (line_replies.Replied reply) mid)
 
 -- a new trace begins after the output with its header; or its writer failed, and all is as before
 abbrev pub Resets : Playing → LineReply → Playing → Type 0
@@ -218,7 +240,8 @@ AnswersResumption trace (Err error) = RefusesResumption trace error
 
 -- the encoder goes on after the output, whose size is told; or that was refused, and all is as before
 abbrev pub Resumes : Playing → LineReply → Playing → Type 0
-Resumes p (line_replies.Resumed size) q = GoesOnAfter p.bytes q.state × (size ≡ length p.bytes) × (q ≡ record p { state = q.state })
+Resumes p (line_replies.Resumed size) q =
+    GoesOnAfter p.bytes q.state × (size ≡ length p.bytes) × (q ≡ record p { state = q.state })
 Resumes p (line_replies.Replied (Refused error)) q = RefusesResumption p.bytes error × (q ≡ p)
 Resumes p reply q = ⊥
 
@@ -230,7 +253,8 @@ IsReplied step p q = (reply : LineReply) × (mid : Playing) × step p reply mid 
 abbrev pub Turns : Playing → ScriptCall → Playing → Type 0
 Turns p Nothing q = q ≡ p
 Turns p (Define handle definition) q = q ≡ with_reply line_replies.Silent (with_schema handle definition p)
-Turns p (DefineType handle slot definition) q = (mid : Playing) × DefinesType handle slot definition p mid × (q ≡ with_reply line_replies.Silent mid)
+Turns p (DefineType handle slot definition) q =
+    (mid : Playing) × DefinesType handle slot definition p mid × (q ≡ with_reply line_replies.Silent mid)
 Turns p (Raw bytes) q = q ≡ with_reply line_replies.Silent (record p { bytes = p.bytes ++ bytes.items })
 Turns p Bare q = q ≡ with_reply line_replies.Silent (record p { bytes = [] })
 Turns p Reset q = IsReplied Resets p q
@@ -250,8 +274,8 @@ IsOfEncoder (Raw bytes) = ⊥
 IsOfEncoder Bare = ⊥
 IsOfEncoder call = Unit {0}
 
--- The output is the header and what a new encoder sends where it answers calls so one after another; and where its writer never
--- failed, a reader takes exactly the frames of the accepted calls.
+-- The output is the header and what a new encoder sends where it answers calls so one after another; and where its
+-- writer never failed, a reader takes exactly the frames of the accepted calls.
 pub record IsWritten (last : Playing) : Type 0 where
   pub actions : List Action
   pub replies : List Reply

@@ -24,11 +24,14 @@ borrowed_text (Some lines) = codes "\n# borrowed\n" ++ lines.now
 -- the lines of the other readings
 abbrev pub readings_text : Option Readings → List ℕ
 readings_text None = []
-readings_text (Some r) = borrowed_text r.borrowed ++ (codes "\n# resolve\n" ++ (r.resolved.now ++ (codes "\n# sink\n" ++ r.sink.now)))
+readings_text (Some r) =
+    borrowed_text r.borrowed ++ (codes "\n# resolve\n" ++ (r.resolved.now ++ (codes "\n# sink\n" ++ r.sink.now)))
 
 -- the lines of a recording up to the one that ends it
 unfoldable pub recording_lines : Recording → List ℕ
-recording_lines r = codes "== " ++ r.name.now ++ making_text r.calls r.bytes.now ++ codes "\n# dump\n" ++ r.dump.now ++ readings_text r.readings
+recording_lines r =
+    codes "== " ++ r.name.now ++ making_text r.calls r.bytes.now ++ codes "\n# dump\n" ++ r.dump.now ++ readings_text
+    r.readings
 
 -- a recording
 abbrev pub recording_text : Recording → List ℕ
@@ -40,4 +43,5 @@ HasNoEmptyLine text = AllByRecursion (λ line. line ≢ []) (lines_of text)
 
 -- a file has these recordings, after its head, which ends with the first empty line
 abbrev pub IsFile : List Recording → List ℕ → Type 0
-IsFile recordings file = (head : List ℕ) × HasNoEmptyLine head × (file ≡ head ++ (codes "\n\n" ++ flat_map recording_text recordings))
+IsFile recordings file =
+    (head : List ℕ) × HasNoEmptyLine head × (file ≡ head ++ (codes "\n\n" ++ flat_map recording_text recordings))

@@ -1,20 +1,21 @@
 -- Why a script was not played.
-use Rattle.std.specs.Prelude.{◌≡◌, is_none, ⊤, ℕ, Bool, true, false, List, ◌∷◌, ◌++◌, length, None}
+use Rattle.std.specs.Prelude.{◌≡◌, not, ⊤, ℕ, Bool, true, false, List, ◌∷◌, ◌++◌, length, None}
 use Rattle.std.specs.List.{AllByRecursion}
 use Rattle.trace_recordings.specs.declared.player.PlayError.{PlayError}
 use Rattle.trace_recordings.specs.declared.player.PlayError.TheVariants as plays
 use Rattle.trace_recordings.specs.declared.script.definitions.Definition.{Definition}
 use Rattle.trace_recordings.specs.declared.script.call.ScriptCall.{ScriptCall}
-use Rattle.trace_recordings.specs.declared.script.call.ScriptCall.TheVariants.{Register, Event, DefineType, WriteTyped, Resume}
+use Rattle.trace_recordings.specs.declared.script.call.ScriptCall.TheVariants.{Register, Event, DefineType, WriteTyped}
+use Rattle.trace_recordings.specs.declared.script.call.ScriptCall.TheVariants.{Resume}
 use Rattle.trace_recordings.specs.Scripts.{IsScript, IsBrokenAt, word_of}
 use Rattle.dial9_trace_format.specs.Decoding.{IsHeadless}
 use Rattle.trace_recordings.specs.Playing.{Defined, Playing, TurnsEach, defined_entry, start, under}
-use Rattle.trace_recordings.specs.Samples.{sample_index}
+use Rattle.trace_recordings.specs.Samples.{is_sample}
 use Rattle.trace_recordings.specs.Tallies.{counted_up}
 
 -- the call makes a type that is none of the samples
 abbrev pub misses : ScriptCall → Bool
-misses (DefineType handle slot definition) = is_none (sample_index slot (defined_entry definition))
+misses (DefineType handle slot definition) = not (is_sample slot (defined_entry definition))
 misses call = false
 
 -- the call can be played
@@ -95,7 +96,8 @@ IsUnheld line error = ⊥
 
 -- no sample type is so defined, or memory was wanting
 abbrev pub LacksType : ℕ → ℕ → Definition → PlayError → Type 0
-LacksType line slot definition (plays.LeftOut other word) = is_none (sample_index slot (defined_entry definition)) ≡ true
+LacksType line slot definition (plays.LeftOut other word) =
+    not (is_sample slot (defined_entry definition)) ≡ true
 LacksType line slot definition plays.Memory = ⊤
 LacksType line slot definition error = ⊥
 
@@ -119,13 +121,16 @@ abbrev pub RefusesCall : Playing → ℕ → ScriptCall → PlayError → Type 0
 RefusesCall p line call (plays.Headless other) = (other ≡ line) × ResumesHeadless p call
 RefusesCall p line call error = RefusesUnder p.defined line call error
 
--- why a script was not played: a line cannot be read; it is read whole, and makes a type that is none of the samples, or names a handle
--- that nothing has, or writes an event of a type whose values were not taken, or goes on after an output without a header; want of
--- memory, or no encoder
+-- why a script was not played: a line cannot be read; it is read whole, and makes a type that is none of the samples,
+-- or names a handle that nothing has, or writes an event of a type whose values were not taken, or goes on after an
+-- output without a header; want of memory, or no encoder
 abbrev pub RefusesScript : List ℕ → PlayError → Type 0
 RefusesScript text (plays.Script error) = IsBrokenAt text error
-RefusesScript text (plays.LeftOut line word) = (calls : List ScriptCall) × IsScript calls text × FirstMissing calls line word.now
-RefusesScript text (plays.Unknown line handle) = (calls : List ScriptCall) × IsScript calls text × NamesUnknown calls line handle
+RefusesScript text (plays.LeftOut line word) =
+    (calls : List ScriptCall) × IsScript calls text × FirstMissing calls line word.now
+RefusesScript text (plays.Unknown line handle) =
+    (calls : List ScriptCall) × IsScript calls text × NamesUnknown calls line handle
 RefusesScript text (plays.Unheld line) = (calls : List ScriptCall) × IsScript calls text × NamesUnheld calls line
-RefusesScript text (plays.Headless line) = (calls : List ScriptCall) × IsScript calls text × StopsAtLine calls line ResumesHeadless
+RefusesScript text (plays.Headless line) =
+    (calls : List ScriptCall) × IsScript calls text × StopsAtLine calls line ResumesHeadless
 RefusesScript text error = ⊤

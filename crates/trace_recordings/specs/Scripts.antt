@@ -1,5 +1,6 @@
 -- How the calls of a script stand in its lines.
-use Rattle.std.specs.Prelude.{◌≡◌, ◌≢◌, ◌⊎◌, ⊤, ℕ, ◌-◌, ◌<◌, ◌==◌, Bool, true, List, [], ◌∷◌, ◌++◌, length, slice_get, Option, Some, None, Result, Ok, IfOk, codes, decimal, string_bytes}
+use Rattle.std.specs.Prelude.{◌≡◌, ◌≢◌, ◌⊎◌, ⊤, ℕ, ◌-◌, ◌<◌, ◌==◌, Bool, true, List, [], ◌∷◌, ◌++◌, length, slice_get}
+use Rattle.std.specs.Prelude.{Option, Some, None, Result, Ok, IfOk, codes, decimal, string_bytes}
 use Rattle.std.specs.List.{flat_map, slice_split}
 use Rattle.std.specs.Borrow.{Bor}
 use Rattle.hex.specs.Hex.{decode_of}
@@ -7,7 +8,10 @@ use Rattle.trace_values.specs.Values.{Value}
 use Rattle.trace_values.specs.View.{views}
 use Rattle.trace_lines.specs.Lines.{quoted, address_list, spaced_value}
 use Rattle.trace_recordings.specs.declared.script.call.ScriptCall.{ScriptCall}
-use Rattle.trace_recordings.specs.declared.script.call.ScriptCall.TheVariants.{Nothing, Define, Register, Event, DefineType, WriteTyped, InternString, InternStack, StringPool, StackPool, Reset, Resume, Raw, Bare}
+use Rattle.trace_recordings.specs.declared.script.call.ScriptCall.TheVariants.{Nothing, Define, Register, Event}
+use Rattle.trace_recordings.specs.declared.script.call.ScriptCall.TheVariants.{DefineType, WriteTyped, InternString}
+use Rattle.trace_recordings.specs.declared.script.call.ScriptCall.TheVariants.{InternStack, StringPool, StackPool}
+use Rattle.trace_recordings.specs.declared.script.call.ScriptCall.TheVariants.{Reset, Resume, Raw, Bare}
 use Rattle.trace_recordings.specs.declared.script.ScriptError.{ScriptError}
 use Rattle.trace_recordings.specs.declared.script.line_error.LineError.{LineError}
 use Rattle.trace_recordings.specs.declared.script.line_error.LineError.TheVariants.{Memory}
@@ -69,10 +73,12 @@ word_of Bare = codes "bare"
 -- the line says the call
 abbrev pub Says : ScriptCall → List ℕ → Type 0
 Says Nothing line = is_silent line ≡ true
-Says (Define handle definition) line = line ≡ codes "define " ++ decimal handle ++ codes " " ++ definition_text definition
+Says (Define handle definition) line =
+    line ≡ codes "define " ++ decimal handle ++ codes " " ++ definition_text definition
 Says (Register handle) line = line ≡ codes "register " ++ decimal handle
 Says (Event handle time values) line = line ≡ codes "event " ++ event_text handle time (views values.items)
-Says (DefineType handle slot definition) line = line ≡ codes "type " ++ decimal handle ++ codes " " ++ decimal slot ++ codes " " ++ definition_text definition
+Says (DefineType handle slot definition) line =
+    line ≡ codes "type " ++ decimal handle ++ codes " " ++ decimal slot ++ codes " " ++ definition_text definition
 Says (WriteTyped handle time values) line = line ≡ codes "write " ++ event_text handle time (views values.items)
 Says (InternString text) line = line ≡ codes "string " ++ quoted (string_bytes text)
 Says (InternStack frames) line = line ≡ codes "stack " ++ address_list frames.items
@@ -110,8 +116,8 @@ IsWord call = ⊥
 abbrev pub SaysNoWord : List ℕ → Type 0
 SaysNoWord line = (call : ScriptCall) → IsWord call → Says call line → ⊥
 
--- The lines before that of the error say calls. Reading stopped at its line, which is not silent and no call of one word, where
--- memory was not wanting. Lines count from 1.
+-- The lines before that of the error say calls. Reading stopped at its line, which is not silent and no call of one
+-- word, where memory was not wanting. Lines count from 1.
 pub record IsBrokenAt (text : List ℕ) (error : ScriptError) : Type 0 where
   pub before : List (List ℕ)
   pub calls : List ScriptCall

@@ -15,13 +15,14 @@ use Rattle.trace_recordings.specs.Tallies.{counted_up}
 abbrev pub counts : EventCounter → ShownEvent → EventCounter → Type 0
 counts s e t = t.events ≡ counted_up s.events 1
 
--- the place where the longest run over an input of a size ends before the rest, told by the bytes before it: before the rest, or
--- after the schema that differs from what its wire id stands for
+-- the place where the longest run over an input of a size ends before the rest, told by the bytes before it: before the
+-- rest, or after the schema that differs from what its wire id stands for
 abbrev pub IsPlace : ℕ → Grammar → List ℕ → Ending → ℕ → Type 0
 IsPlace size last rest Whole place = place ≡ size - length rest
 IsPlace size last rest Stopped place = place ≡ size - length rest
 IsPlace size last rest Conflict place =
-    (id : ℕ) × (shape : Shape) × (after : List ℕ) × Begins borrowed last rest (Schema id shape) after × (place ≡ size - length after)
+    (id : ℕ) × (shape : Shape) × (after : List ℕ) × Begins borrowed last rest (Schema id shape) after
+    × (place ≡ size - length after)
 
 -- the longest run of borrowed frames after the header has these frames, and ends so, at this place
 pub record EndsAt (input : List ℕ) (frames : List Frame) (end : Ending) (place : ℕ) : Type 0 where
@@ -32,10 +33,11 @@ pub record EndsAt (input : List ℕ) (frames : List Frame) (end : Ending) (place
 
 -- three lines: how many events, how that ended, and at which place
 abbrev pub sink_text : ℕ → List ℕ → ℕ → List ℕ
-sink_text count told place = line (codes "events " ++ decimal count) ++ line told ++ line (codes "position " ++ decimal place)
+sink_text count told place =
+    line (codes "events " ++ decimal count) ++ line told ++ line (codes "position " ++ decimal place)
 
--- The lines of a sink that is shown the events of the longest run of borrowed frames. Where the run is the whole of a stream it ended
--- with `ok`; elsewhere with the text of the reader's error, which is not said here.
+-- The lines of a sink that is shown the events of the longest run of borrowed frames. Where the run is the whole of a
+-- stream it ended with `ok`; elsewhere with the text of the reader's error, which is not said here.
 pub record IsStreamSink (input : List ℕ) (text : List ℕ) : Type 0 where
   pub version : ℕ
   pub header : StartsWith input version

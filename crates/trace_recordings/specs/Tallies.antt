@@ -18,7 +18,8 @@ Counts = List (List ℕ × ℕ)
 -- one more of a name; a new one comes last
 abbrev pub one_more_of : List ℕ → Counts → Counts
 one_more_of name [] = (name, 1) ∷ []
-one_more_of name (c ∷ counts) = if pointwise nat_eq c.0 name then (c.0, counted_up c.1 1) ∷ counts else c ∷ one_more_of name counts
+one_more_of name (c ∷ counts) =
+    if pointwise nat_eq c.0 name then (c.0, counted_up c.1 1) ∷ counts else c ∷ one_more_of name counts
 
 abbrev pub is_named : List ℕ → left.LeftOut → Bool
 is_named name l = pointwise nat_eq l.name.now name
@@ -42,7 +43,8 @@ seen_in p = record { compared = p.compared; differences = p.differences; left_ou
 abbrev pub with_outcome : PartFinding → Seen → Seen
 with_outcome Absent s = s
 with_outcome (LeftOut name) s = record s { left_out = one_more_of name.now s.left_out }
-with_outcome (Compared differences) s = record s { compared = counted_up s.compared 1; differences = counted_up s.differences (length differences.items) }
+with_outcome (Compared differences) s =
+    record s { compared = counted_up s.compared 1; differences = counted_up s.differences (length differences.items) }
 
 -- with what became of the other readings
 abbrev pub with_readings : Findings → Seen → Seen

@@ -19,8 +19,8 @@ pub fn bytes_difference(
     Ok(Some(format!(in alloc; "the bytes differ first at byte {place}")?))
 }
 
-/// Tells by what found lines differ from the recorded ones, where they do. Each found line has its line feed, and the last
-/// recorded one lacks it. `AllocError` where a growth was refused.
+/// Tells by what found lines differ from the recorded ones, where they do. Each found line has its line feed, and the
+/// last recorded one lacks it. `AllocError` where a growth was refused.
 pub fn lines_difference(
     alloc: Global,
     recorded: &str,

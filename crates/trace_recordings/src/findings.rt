@@ -2,7 +2,8 @@
 
 ghost use Rattle.std.specs.Prelude.{◌≡◌, ◌↔◌, [], IfOk, codes, string_bytes};
 ghost use Rattle.trace_recordings.specs.Comparisons.{ended};
-ghost use Rattle.trace_recordings.specs.Findings.{borrowed_lines, IsUnread, ShowsBorrowed, ShowsDump, ShowsResolved, ShowsScript, ShowsSink, ShowsUnread, WhereRead};
+ghost use Rattle.trace_recordings.specs.Findings.{borrowed_lines, IsUnread, ShowsBorrowed, ShowsDump, ShowsResolved};
+ghost use Rattle.trace_recordings.specs.Findings.{ShowsScript, ShowsSink, ShowsUnread, WhereRead};
 
 use crate::compare::{bytes_difference, lines_difference};
 use crate::player::{PlayError, Played, play};
@@ -39,16 +40,25 @@ pub struct Findings {
     pub sink: PartFinding,
 }
 
-/// Plays the script of a recording, dumps its trace, by each reader and with resolved events, and shows its events to a sink, and compares
-/// what comes of it with the recording. Where the recorded bytes cannot be read that is told as a difference of the dump. `AllocError` where a
-/// growth was refused, by whichever of these.
+/// Plays the script of a recording, dumps its trace, by each reader and with resolved events, and shows its events to a
+/// sink, and compares what comes of it with the recording. Where the recorded bytes cannot be read that is told as a
+/// difference of the dump. `AllocError` where a growth was refused, by whichever of these.
 pub fn findings_of(alloc: Global, recording: Recording<'_>) -> Result<Findings, AllocError>
-    ensures script { IfOk result (λ f. WhereRead recording.entry (λ trace. ShowsScript trace recording.entry.calls f.script)) }
-    ensures dump { IfOk result (λ f. WhereRead recording.entry (λ trace. ShowsDump (DumpForm.Frames Reader.Owned) trace recording.entry.dump.now f.dump)) }
+    ensures script { IfOk result
+        (λ f. WhereRead recording.entry
+        (λ trace. ShowsScript trace recording.entry.calls f.script)) }
+    ensures dump { IfOk result
+        (λ f. WhereRead recording.entry
+        (λ trace. ShowsDump (DumpForm.Frames Reader.Owned) trace recording.entry.dump.now f.dump)) }
     ensures borrowed { IfOk result (λ f. WhereRead recording.entry
-        (λ trace. ShowsBorrowed trace recording.entry.dump.now recording.entry.readings f.borrowed)) }
-    ensures resolved { IfOk result (λ f. WhereRead recording.entry (λ trace. ShowsResolved trace recording.entry.readings f.resolved)) }
-    ensures sink { IfOk result (λ f. WhereRead recording.entry (λ trace. ShowsSink trace recording.entry.readings f.sink)) }
+        (λ trace. ShowsBorrowed trace recording.entry.dump.now recording.entry.readings
+        f.borrowed)) }
+    ensures resolved { IfOk result
+        (λ f. WhereRead recording.entry
+        (λ trace. ShowsResolved trace recording.entry.readings f.resolved)) }
+    ensures sink { IfOk result
+        (λ f. WhereRead recording.entry
+        (λ trace. ShowsSink trace recording.entry.readings f.sink)) }
     ensures unread { IfOk result (λ f. IsUnread recording.entry → ShowsUnread f) }
 {
     match hex::decode(alloc, recording.bytes) {
@@ -84,7 +94,7 @@ fn unread_findings(alloc: Global, error: &FromHexError) -> Result<Findings, Allo
 }
 
 // Plays a script, and compares the bytes and the replies.
-#[tactic(auto, using(crate::proofs::FindingLemmas::shows_played, crate::proofs::FindingLemmas::shows_refused))]
+#[tactic(auto, using(crate::proofs::PlayedOrRefused::shows_played, crate::proofs::PlayedOrRefused::shows_refused))]
 fn script_outcome(
     alloc: Global,
     calls: Option<Calls<'_>>,
@@ -116,7 +126,10 @@ fn played_differences(
     trace: &[u8],
     played: &Played,
 ) -> Result<Vec<String>, AllocError>
-    ensures { IfOk result (λ told. (told.items ≡ []) ↔ ((trace.now ≡ played.now.bytes.items) × (ended replies.now ≡ string_bytes played.now.replies))) }
+    ensures { IfOk result
+        (λ told. (told.items ≡ [])
+        ↔ ((trace.now ≡ played.now.bytes.items)
+        × (ended replies.now ≡ string_bytes played.now.replies))) }
 {
     let mut differences = Vec::new(alloc);
     if let Some(difference) = bytes_difference(alloc, trace, &played.bytes)? {
@@ -128,7 +141,8 @@ fn played_differences(
     Ok(differences)
 }
 
-// Dumps a trace by the borrowed reader, where its readings were recorded. The lines are those of the dump where they have no others.
+// Dumps a trace by the borrowed reader, where its readings were recorded. The lines are those of the dump where they
+// have no others.
 fn borrowed_outcome(
     alloc: Global,
     lines: &str,
@@ -176,7 +190,8 @@ fn sink_outcome(
     Ok(PartFinding::Compared(differences))
 }
 
-// Dumps a trace, and compares the lines, whose last one tells the status. A vector as a writer wants nothing but memory.
+// Dumps a trace, and compares the lines, whose last one tells the status. A vector as a writer wants nothing but
+// memory.
 fn dump_outcome(
     alloc: Global,
     lines: &str,
@@ -209,7 +224,8 @@ fn text_differences(
     lines: &str,
     found: &[u8],
 ) -> Result<Vec<String>, AllocError>
-    ensures { IfOk result (λ differences. (differences.items ≡ []) ↔ (ended lines.now ≡ found.now)) }
+    ensures { IfOk result
+        (λ differences. (differences.items ≡ []) ↔ (ended lines.now ≡ found.now)) }
 {
     let mut differences = Vec::new(alloc);
     if let Some(difference) = lines_difference(alloc, lines, found)? {

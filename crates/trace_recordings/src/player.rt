@@ -1,18 +1,23 @@
 //! Plays the calls of a script on an encoder.
 
-ghost use Rattle.std.specs.Prelude.{◌≡◌, ◌↔◌, ◌++◌, map, true, false, None, IsTrue, IfOk, IfErr, IfSome, is_none, OnOk, string_bytes};
+ghost use Rattle.std.specs.Prelude.{◌≡◌, ◌↔◌, ◌++◌, map, true, false, None, IsTrue, IfOk, IfErr, IfSome, is_none, OnOk};
+ghost use Rattle.std.specs.Prelude.{string_bytes};
 ghost use Rattle.std.specs.List.{AllByRecursion};
 ghost use Rattle.trace_wire.specs.PoolEntries.{string_entries_of, stack_entries_of};
 ghost use Rattle.trace_writer.specs.Calls.{reply_from};
 ghost use Rattle.trace_recordings.specs.declared.player.PlayError.TheVariants as errors;
-ghost use Rattle.trace_recordings.specs.Playing.{AnswersResumption, DefinesType, IsOfScript, IsPlayed, Asks, DoesCall, Resets, Resumes, Turns, answer_text, asks, defined_in, defined_entry, under, pool_stack_of, pool_text_of, playing_of, refusal_text, reply_line, start, with_reply, with_schema};
-ghost use Rattle.trace_recordings.specs.Samples.{is_sample, sample_index};
-ghost use Rattle.trace_recordings.specs.Refusals.{IsHad, IsOfPlayer, IsUnheld, LacksHeader, LacksType, LeavesOut, MissesAt, RefusesScript, RefusesCall, RefusesUnder, misses};
+ghost use Rattle.trace_recordings.specs.Playing.{AnswersResumption, DefinesType, IsOfScript, IsPlayed, Asks, DoesCall};
+ghost use Rattle.trace_recordings.specs.Playing.{Resets, Resumes, Turns, answer_text, asks, defined_in, defined_entry};
+ghost use Rattle.trace_recordings.specs.Playing.{under, pool_stack_of, pool_text_of, playing_of, refusal_text};
+ghost use Rattle.trace_recordings.specs.Playing.{reply_line, start, with_reply, with_schema};
+ghost use Rattle.trace_recordings.specs.Samples.{is_sample};
+ghost use Rattle.trace_recordings.specs.Refusals.{IsHad, IsOfPlayer, IsUnheld, LacksHeader, LacksType, LeavesOut};
+ghost use Rattle.trace_recordings.specs.Refusals.{MissesAt, RefusesScript, RefusesCall, RefusesUnder, misses};
 
 use crate::script::{
     Definition, LineError, PoolStack, PoolText, ScriptCall, ScriptError, script_of,
 };
-use crate::typed::{Sample, Unheld, sample_in, write_sample};
+use crate::typed::{SampleType, Unheld, is_sample, write_sample};
 use dial9_trace_format::decoder::Decoder;
 use std::alloc::{AllocError, AllocFailed, Global};
 use std::collections::BTreeMap;
@@ -101,13 +106,15 @@ impl<T: Drop> From<AllocFailed<T>> for PlayError {
 
 /// Reads a script, and makes its calls in their order. A script with a type that is none of the samples is not begun.
 ///
-/// What the encoder refuses is a reply. This refuses, in this order: `Script` with the first line that cannot be read, as `script_of` tells it;
-/// `LeftOut` at the first type that is none of the samples; `Encoder(Writer(OutOfMemory))` where there is no memory for the header; and then, at
-/// the first such line, `Unknown` where no schema or type has the handle, `Unheld` where the type has no event of these values, `Headless` of a
-/// `resume` where no header stands at the front of the output. `Memory` where a growth was refused once the script was read.
-#[tactic(auto, using(crate::proofs::RefusalLemmas::not_begun, crate::proofs::RefusalLemmas::no_player))]
+/// What the encoder refuses is a reply. This refuses, in this order: `Script` with the first line that cannot be read,
+/// as `script_of` tells it; `LeftOut` at the first type that is none of the samples; `Encoder(Writer(OutOfMemory))`
+/// where there is no memory for the header; and then, at the first such line, `Unknown` where no schema or type has the
+/// handle, `Unheld` where the type has no event of these values, `Headless` of a `resume` where no header stands at the
+/// front of the output. `Memory` where a growth was refused once the script was read.
+#[tactic(auto, using(crate::proofs::ScriptRefusals::not_begun, crate::proofs::ScriptRefusals::no_player))]
 pub fn play(alloc: Global, text: &[u8]) -> Result<Played, PlayError>
-    ensures played { IfOk result (λ played. IsPlayed text.now played.bytes.items (string_bytes played.replies)) }
+    ensures played { IfOk result
+        (λ played. IsPlayed text.now played.bytes.items (string_bytes played.replies)) }
     ensures refused { IfErr result (RefusesScript text.now) }
 {
     let script = script_of(alloc, text)?;
@@ -155,22 +162,12 @@ fn is_missing(alloc: Global, call: &ScriptCall) -> Result<bool, AllocError>
             slot,
             definition,
             ..
-        } => Ok(sample_of(alloc, *slot, definition)?.is_none()),
+        } => {
+            let schema = schema_of(alloc, definition)?;
+            Ok(!is_sample(*slot, schema.entry()))
+        }
         _ => Ok(false),
     }
-}
-
-// The sample type that a definition says.
-fn sample_of(
-    alloc: Global,
-    slot: u64,
-    definition: &Definition,
-) -> Result<Option<Sample>, AllocError>
-    ensures found { IfOk result (λ found. IfSome found (λ sample. is_sample slot (defined_entry definition.now) sample ≡ true)) }
-    ensures none { IfOk result (λ found. is_none found ≡ is_none (sample_index slot (defined_entry definition.now))) }
-{
-    let schema = schema_of(alloc, definition)?;
-    Ok(sample_in(slot, schema.entry()))
 }
 
 // The reply of a line.
@@ -190,7 +187,7 @@ enum LineReply {
 #[derive(Drop)]
 struct Handles {
     schemas: BTreeMap<u64, Schema>,
-    types: BTreeMap<u64, Sample>,
+    types: BTreeMap<u64, SampleType>,
 }
 
 // An encoder and what it made: the output holds what the encoder's writer accepted, and what a script put in past it.
@@ -224,7 +221,7 @@ impl Player {
     }
 
     // Makes the call of a line, and appends the line of its reply.
-    #[tactic(auto, using(crate::proofs::RefusalLemmas::lacks_type, crate::proofs::RefusalLemmas::lacks_header, crate::proofs::RefusalLemmas::under_definitions))]
+    #[tactic(auto, using(crate::proofs::ScriptRefusals::lacks_type, crate::proofs::ScriptRefusals::lacks_header))]
     fn make(&mut self, line: usize, call: &ScriptCall) -> Result<(), PlayError>
         ensures turns { OnOk result (Turns (playing_of self.old) call.now (playing_of self.new)) }
         ensures refused { IfErr result (RefusesCall (playing_of self.old) line call.now) }
@@ -278,7 +275,8 @@ impl Player {
 
     // Keeps the schema that a definition says, in the place of one with the same handle.
     fn define(&mut self, handle: u64, definition: &Definition) -> Result<(), PlayError>
-        ensures defined { OnOk result (playing_of self.new ≡ with_schema handle definition.now (playing_of self.old)) }
+        ensures defined { OnOk result
+            (playing_of self.new ≡ with_schema handle definition.now (playing_of self.old)) }
         ensures refused { IfErr result IsOfPlayer }
     {
         let schema = schema_of(self.alloc, definition)?;
@@ -294,19 +292,24 @@ impl Player {
         slot: u64,
         definition: &Definition,
     ) -> Result<(), PlayError>
-        ensures defined { OnOk result (DefinesType handle slot definition.now (playing_of self.old) (playing_of self.new)) }
+        ensures defined { OnOk result
+            (DefinesType handle slot definition.now (playing_of self.old) (playing_of self.new)) }
         ensures refused { IfErr result (LacksType line slot definition.now) }
     {
-        let Some(sample) = sample_of(self.alloc, slot, definition)? else {
+        let schema = schema_of(self.alloc, definition)?;
+        if !is_sample(slot, schema.entry()) {
             return Err(PlayError::LeftOut { line, call: "type" });
-        };
-        self.handles.types.insert(handle, sample)?;
+        }
+        self.handles
+            .types
+            .insert(handle, SampleType { slot, schema })?;
         Ok(())
     }
 
     // Begins a new trace, whose header it appends to the output.
     fn reset(&mut self) -> Result<LineReply, PlayError>
-        ensures resets { IfOk result (λ reply. Resets (playing_of self.old) reply (playing_of self.new)) }
+        ensures resets { IfOk result
+            (λ reply. Resets (playing_of self.old) reply (playing_of self.new)) }
         ensures refused { IfErr result IsOfPlayer }
     {
         match self.encoder.reset_to(Vec::new(self.alloc)) {
@@ -322,7 +325,8 @@ impl Player {
 
     // Puts an encoder that goes on after the output in the place of the one before.
     fn resume(&mut self, line: usize) -> Result<LineReply, PlayError>
-        ensures resumes { IfOk result (λ reply. Resumes (playing_of self.old) reply (playing_of self.new)) }
+        ensures resumes { IfOk result
+            (λ reply. Resumes (playing_of self.old) reply (playing_of self.new)) }
         ensures refused { IfErr result (LacksHeader line (playing_of self.old).bytes) }
     {
         match encoder_after(self.alloc, line, &self.played.bytes)? {
@@ -337,10 +341,11 @@ impl Player {
     }
 
     // Makes a call of the encoder, and appends what it sent to the output.
-    #[tactic(auto, using(crate::proofs::RefusalLemmas::under_definitions))]
+    #[tactic(auto, using(crate::proofs::ScriptRefusals::under_definitions))]
     fn ask(&mut self, line: usize, call: &ScriptCall) -> Result<Reply, PlayError>
         requires { asks call.now ≡ true }
-        ensures asked { IfOk result (λ reply. Asks (playing_of self.old) call.now reply (playing_of self.new)) }
+        ensures asked { IfOk result
+            (λ reply. Asks (playing_of self.old) call.now reply (playing_of self.new)) }
         ensures refused { IfErr result (RefusesCall (playing_of self.old) line call.now) }
     {
         let before = self.encoder.as_inner().len();
@@ -382,7 +387,7 @@ fn encoder_after(
 }
 
 // Makes the call of a line on an encoder.
-#[tactic(auto, using(crate::proofs::RefusalLemmas::unheld))]
+#[tactic(auto, using(crate::proofs::ScriptRefusals::unheld))]
 fn make_on_encoder(
     alloc: Global,
     encoder: &mut Encoder,
@@ -391,7 +396,8 @@ fn make_on_encoder(
     call: &ScriptCall,
 ) -> Result<Reply, PlayError>
     requires { asks call.now ≡ true }
-    ensures does { IfOk result (DoesCall (defined_in handles.now) encoder.old encoder.new call.now) }
+    ensures does { IfOk result
+        (DoesCall (defined_in handles.now) encoder.old encoder.new call.now) }
     ensures refused { IfErr result (RefusesUnder (defined_in handles.now) line call.now) }
 {
     match call {
@@ -495,7 +501,8 @@ fn schema_of(alloc: Global, definition: &Definition) -> Result<Schema, AllocErro
 
 // The entries of a string pool.
 fn pool_of(alloc: Global, texts: &[PoolText]) -> Result<Vec<PoolEntry>, AllocError>
-    ensures { IfOk result (λ entries. string_entries_of entries.items ≡ map pool_text_of texts.now) }
+    ensures { IfOk result
+        (λ entries. string_entries_of entries.items ≡ map pool_text_of texts.now) }
 {
     let mut entries = Vec::new(alloc);
     for text in texts {
@@ -509,7 +516,8 @@ fn pool_of(alloc: Global, texts: &[PoolText]) -> Result<Vec<PoolEntry>, AllocErr
 
 // The entries of a stack pool.
 fn stack_pool_of(alloc: Global, stacks: &[PoolStack]) -> Result<Vec<StackPoolEntry>, AllocError>
-    ensures { IfOk result (λ entries. stack_entries_of entries.items ≡ map pool_stack_of stacks.now) }
+    ensures { IfOk result
+        (λ entries. stack_entries_of entries.items ≡ map pool_stack_of stacks.now) }
 {
     let mut entries = Vec::new(alloc);
     for stack in stacks {
@@ -528,7 +536,8 @@ fn schema_under(
     handle: u64,
 ) -> Result<&Schema, PlayError>
     ensures found { IfOk result (λ schema. under schemas.now.entries handle ≡ Some schema.now) }
-    ensures unknown { IfErr result (λ e. (e ≡ errors.Unknown line handle) × (under schemas.now.entries handle ≡ None)) }
+    ensures unknown { IfErr result
+        (λ e. (e ≡ errors.Unknown line handle) × (under schemas.now.entries handle ≡ None)) }
 {
     match schemas.get(&handle) {
         Some(schema) => Ok(schema),
@@ -538,15 +547,16 @@ fn schema_under(
 
 // The sample type that was defined last under a handle.
 fn sample_under(
-    types: &BTreeMap<u64, Sample>,
+    types: &BTreeMap<u64, SampleType>,
     line: usize,
     handle: u64,
-) -> Result<Sample, PlayError>
-    ensures found { IfOk result (λ sample. under types.now.entries handle ≡ Some sample) }
-    ensures unknown { IfErr result (λ e. (e ≡ errors.Unknown line handle) × (under types.now.entries handle ≡ None)) }
+) -> Result<&SampleType, PlayError>
+    ensures found { IfOk result (λ sample. under types.now.entries handle ≡ Some sample.now) }
+    ensures unknown { IfErr result
+        (λ e. (e ≡ errors.Unknown line handle) × (under types.now.entries handle ≡ None)) }
 {
     match types.get(&handle) {
-        Some(sample) => Ok(*sample),
+        Some(sample) => Ok(sample),
         None => Err(PlayError::Unknown { line, handle }),
     }
 }
@@ -564,7 +574,8 @@ fn unheld_on(line: usize, unheld: Unheld) -> PlayError
 // Appends the line of a reply, `-` where the encoder was not called.
 #[tactic(auto, unfolding(crate::specs::Playing::reply_line))]
 fn push_reply(out: &mut String, reply: LineReply, written: u64) -> Result<(), AllocError>
-    ensures { OnOk result (string_bytes out.new ≡ string_bytes out.old ++ reply_line reply written) }
+    ensures { OnOk result
+        (string_bytes out.new ≡ string_bytes out.old ++ reply_line reply written) }
 {
     match reply {
         LineReply::Silent => out.push_str("-")?,

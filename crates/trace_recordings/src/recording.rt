@@ -4,7 +4,8 @@ ghost use Rattle.std.specs.Prelude.{◌≡◌, ◌≢◌, ◌<◌, false, get_or
 ghost use Rattle.std.specs.List.{flat_map};
 ghost use Rattle.trace_recordings.specs.declared.recording.RecordingError.TheVariants as errors;
 ghost use Rattle.trace_recordings.specs.Scripts.{line_feed};
-ghost use Rattle.trace_recordings.specs.Recordings.{borrowed_text, calls_text, making_text, readings_text, recording_lines, recording_text, IsFile};
+ghost use Rattle.trace_recordings.specs.Recordings.{borrowed_text, calls_text, making_text, readings_text};
+ghost use Rattle.trace_recordings.specs.Recordings.{recording_lines, recording_text, IsFile};
 
 use std::alloc::{AllocError, AllocFailed, Global};
 use thiserror::Error;
@@ -66,8 +67,9 @@ impl<T: Drop> From<AllocFailed<T>> for RecordingError {
     }
 }
 
-/// Reads a file: its head up to the first empty line, and the recordings, each of which stands there whole. `Head` where the file has no
-/// empty line, or begins with one; `Parts` with the number of the first recording, from 1, that is not whole; `Memory` where a growth was refused.
+/// Reads a file: its head up to the first empty line, and the recordings, each of which stands there whole. `Head`
+/// where the file has no empty line, or begins with one; `Parts` with the number of the first recording, from 1, that
+/// is not whole; `Memory` where a growth was refused.
 pub fn recordings_of(alloc: Global, file: &str) -> Result<Vec<Recording<'_>>, RecordingError>
     ensures { IfOk result (λ v. IsFile v.items file.now) }
 {

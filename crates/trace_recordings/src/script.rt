@@ -2,7 +2,8 @@
 
 ghost use Rattle.std.specs.Prelude.{◌≡◌, ◌≢◌, ◌<◌, length, IfErr, IfOk, IfSome, OnOk};
 ghost use Rattle.std.specs.Option.{option_copied};
-ghost use Rattle.trace_recordings.specs.Scripts.{IsScript, IsBrokenAt, IsFirstLine, GainsCall, EndsWithReturn, SaysNoWord};
+ghost use Rattle.trace_recordings.specs.Scripts.{IsScript, IsBrokenAt, IsFirstLine, GainsCall, EndsWithReturn};
+ghost use Rattle.trace_recordings.specs.Scripts.{SaysNoWord};
 ghost use Rattle.trace_recordings.specs.Tallies.{counted_up};
 ghost use Rattle.trace_recordings.specs.declared.script.line_error.LineError.TheVariants.{CarriageReturn, Memory};
 
@@ -32,9 +33,10 @@ pub struct ScriptError {
 
 /// Reads a script: what each line asks for, in their order. A line ends with a line feed, which the last one may lack.
 ///
-/// Refuses the first line that cannot be read, with its number and the error that `call_of` tells: `CarriageReturn` in its place where a
-/// carriage return ends the line, but for `Memory`. `Memory` too where there is no room for what the line asks for.
-#[tactic(auto, using(crate::proofs::ScriptLemmas::one_more, crate::proofs::ScriptLemmas::the_last))]
+/// Refuses the first line that cannot be read, with its number and the error that `call_of` tells: `CarriageReturn` in
+/// its place where a carriage return ends the line, but for `Memory`. `Memory` too where there is no room for what the
+/// line asks for.
+#[tactic(auto, using(crate::proofs::ScriptLines::one_more, crate::proofs::ScriptLines::the_last))]
 pub fn script_of(alloc: Global, text: &[u8]) -> Result<Vec<ScriptCall>, ScriptError>
     ensures read { IfOk result (λ calls. IsScript calls.items text.now) }
     ensures broken { IfErr result (IsBrokenAt text.now) }
@@ -52,7 +54,7 @@ pub fn script_of(alloc: Global, text: &[u8]) -> Result<Vec<ScriptCall>, ScriptEr
 }
 
 // The first line, and what stands after its line feed.
-#[tactic(auto, using(crate::proofs::ScriptLemmas::feed_at, crate::proofs::ScriptLemmas::no_feed))]
+#[tactic(auto, using(crate::proofs::ScriptLines::feed_at, crate::proofs::ScriptLines::no_feed))]
 fn first_line(text: &[u8]) -> (&[u8], Option<&[u8]>)
     ensures line { IsFirstLine text.now result.0.now (option_copied result.1) }
     ensures shorter { IfSome result.1 (λ rest. length rest.now < length text.now) }

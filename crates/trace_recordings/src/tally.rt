@@ -1,7 +1,8 @@
 //! Counts of what was compared.
 
 ghost use Rattle.std.specs.Prelude.{◌≡◌, ◌<◌, ◌↔◌, ◌⊎◌, position, IsTrue, OnOk};
-ghost use Rattle.trace_recordings.specs.Tallies.{counted_up, counts_of, is_named, nothing_seen, seen_in, one_more_of, with_outcome, with_readings};
+ghost use Rattle.trace_recordings.specs.Tallies.{counted_up, counts_of, is_named, nothing_seen, seen_in, one_more_of};
+ghost use Rattle.trace_recordings.specs.Tallies.{with_outcome, with_readings};
 
 use crate::findings::{Findings, PartFinding};
 use std::alloc::{AllocError, Global};
@@ -50,9 +51,13 @@ impl SetTally {
     /// Counts a recording. `AllocError` where a growth was refused: parts of it may be counted then.
     pub fn add(&mut self, findings: &Findings) -> Result<(), AllocError>
         ensures recordings { OnOk result (self.new.recordings ≡ counted_up self.old.recordings 1) }
-        ensures scripts { OnOk result (seen_in self.new.scripts ≡ with_outcome findings.now.script (seen_in self.old.scripts)) }
-        ensures dumps { OnOk result (seen_in self.new.dumps ≡ with_outcome findings.now.dump (seen_in self.old.dumps)) }
-        ensures readings { OnOk result (seen_in self.new.readings ≡ with_readings findings.now (seen_in self.old.readings)) }
+        ensures scripts { OnOk result
+            (seen_in self.new.scripts
+            ≡ with_outcome findings.now.script (seen_in self.old.scripts)) }
+        ensures dumps { OnOk result
+            (seen_in self.new.dumps ≡ with_outcome findings.now.dump (seen_in self.old.dumps)) }
+        ensures readings { OnOk result
+            (seen_in self.new.readings ≡ with_readings findings.now (seen_in self.old.readings)) }
     {
         self.scripts.add(&findings.script)?;
         self.dumps.add(&findings.dump)?;
@@ -65,7 +70,9 @@ impl SetTally {
 
     /// Whether a recording differs.
     pub fn differs(&self) -> bool
-        ensures { IsTrue result ↔ ((0 < self.now.scripts.differences) ⊎ (0 < self.now.dumps.differences) ⊎ (0 < self.now.readings.differences)) }
+        ensures { IsTrue result
+            ↔ ((0 < self.now.scripts.differences) ⊎ (0 < self.now.dumps.differences)
+            ⊎ (0 < self.now.readings.differences)) }
     {
         self.scripts.differences > 0 || self.dumps.differences > 0 || self.readings.differences > 0
     }
@@ -99,7 +106,8 @@ impl Parts {
 
 // Counts one more that was left out.
 fn leave_out(left_out: &mut Vec<LeftOut>, name: &'static str) -> Result<(), AllocError>
-    ensures { OnOk result (counts_of left_out.new.items ≡ one_more_of name.now (counts_of left_out.old.items)) }
+    ensures { OnOk result
+        (counts_of left_out.new.items ≡ one_more_of name.now (counts_of left_out.old.items)) }
 {
     match left_out_index(left_out, name) {
         Some(index) => {

@@ -1,6 +1,5 @@
 -- The schemas of the sample event types.
 use Rattle.std.specs.Prelude.{ℕ, List, [], ◌∷◌, codes}
-use Rattle.std.specs.Borrow.{Bor}
 use Rattle.trace_values.specs.declared.types.field_type.FieldType.{FieldType}
 use Rattle.trace_values.specs.declared.types.field_type.FieldType.TheVariants as types
 use Rattle.trace_wire.specs.Limits.{greatest_u16}
@@ -10,10 +9,6 @@ use Rattle.trace_writer.specs.Calls.{bare_schema}
 -- a field of this name and type
 abbrev pub field : List ℕ → FieldType → Field
 field name field_type = record { name = name; field_type = field_type }
-
--- a field, of its name and its type
-abbrev pub defined : Bor (List ℕ) × FieldType → Field
-defined pair = field pair.0.now pair.1
 
 -- a key and a value for the field of this index
 abbrev pub annotation : ℕ → List ℕ → List ℕ → Annotation
@@ -68,27 +63,37 @@ borrowed_entry = bare_schema (codes "Borrowed") (field (codes "path") types.Stri
     ∷ field (codes "note") types.OptionalString ∷ field (codes "rest") types.OptionalBytes ∷ [])
 
 abbrev pub stacks_entry : Entry
-stacks_entry = bare_schema (codes "Stacks") (field (codes "frames") types.StackFrames ∷ field (codes "stack") types.PooledStackFrames ∷ [])
+stacks_entry =
+    bare_schema (codes "Stacks")
+    (field (codes "frames") types.StackFrames ∷ field (codes "stack") types.PooledStackFrames ∷ [])
 
 abbrev pub dynamic_entry : Entry
-dynamic_entry = bare_schema (codes "Dynamic") (field (codes "items") types.DynamicList ∷ field (codes "table") types.DynamicMap ∷ [])
+dynamic_entry =
+    bare_schema (codes "Dynamic")
+    (field (codes "items") types.DynamicList ∷ field (codes "table") types.DynamicMap ∷ [])
 
 abbrev pub numbers_entry : Entry
-numbers_entry = bare_schema (codes "Numbers") (field (codes "byte") types.U8 ∷ field (codes "short") types.U16 ∷ field (codes "word") types.U32
+numbers_entry =
+    bare_schema (codes "Numbers")
+    (field (codes "byte") types.U8 ∷ field (codes "short") types.U16 ∷ field (codes "word") types.U32
     ∷ field (codes "long") types.Varint ∷ field (codes "signed") types.I64 ∷ field (codes "real") types.F64
     ∷ field (codes "flag") types.Bool ∷ [])
 
 abbrev pub options_entry : Entry
 options_entry = bare_schema (codes "Options") (field (codes "byte") types.OptionalU8
     ∷ field (codes "short") types.OptionalU16 ∷ field (codes "word") types.OptionalU32
-    ∷ field (codes "long") types.OptionalVarint ∷ field (codes "signed") types.OptionalI64 ∷ field (codes "real") types.OptionalF64
-    ∷ field (codes "flag") types.OptionalBool ∷ field (codes "text") types.OptionalString ∷ field (codes "blob") types.OptionalBytes
+    ∷ field (codes "long") types.OptionalVarint ∷ field (codes "signed") types.OptionalI64 ∷ field (codes "real")
+    types.OptionalF64
+    ∷ field (codes "flag") types.OptionalBool ∷ field (codes "text") types.OptionalString ∷ field (codes "blob")
+    types.OptionalBytes
     ∷ field (codes "frames") types.OptionalStackFrames ∷ field (codes "label") types.OptionalPooledString
     ∷ field (codes "stack") types.OptionalPooledStackFrames
     ∷ field (codes "pairs") types.OptionalStringMap ∷ [])
 
 abbrev pub wide_entry : Entry
-wide_entry = bare_schema (codes "Wide") (field (codes "v0") types.Varint ∷ field (codes "v1") types.Varint ∷ field (codes "v2") types.Varint
+wide_entry =
+    bare_schema (codes "Wide")
+    (field (codes "v0") types.Varint ∷ field (codes "v1") types.Varint ∷ field (codes "v2") types.Varint
     ∷ field (codes "v3") types.Varint ∷ field (codes "v4") types.Varint ∷ field (codes "v5") types.Varint
     ∷ field (codes "v6") types.Varint ∷ field (codes "v7") types.Varint ∷ field (codes "v8") types.Varint
     ∷ field (codes "v9") types.Varint ∷ field (codes "v10") types.Varint ∷ field (codes "v11") types.Varint

@@ -1,5 +1,5 @@
 -- What a writer that tells all is to a contract, and what it answers by its manner.
-use Rattle.std.specs.Prelude.{◌≡◌, ◌≢◌, ℕ, ◌-◌, min, List, [], length, Option, None, Some, Result, Ok, Err}
+use Rattle.std.specs.Prelude.{false, ◌≡◌, ◌≢◌, ℕ, ◌-◌, min, List, [], length, Option, None, Some, Result, Ok, Err}
 use Rattle.std.specs.IoError.{error_kind}
 use Rattle.std.specs.declared.io.Error.{Error}
 use Rattle.std.specs.declared.io.ErrorKind.{ErrorKind}
@@ -20,7 +20,7 @@ pub record Teller : Type 0 where
 
 -- it tells all
 abbrev pub all_told : Teller → Account
-all_told t = record { bytes = Some t.bytes; faults = Some t.faults; waiting = Some t.waiting }
+all_told t = record { bytes = Some t.bytes; faults = Some t.faults; waiting = Some t.waiting; lends = false }
 
 -- it accepted nothing, and is settled
 abbrev pub new_teller : Manner → Teller
@@ -40,12 +40,15 @@ AnswersFault (fault_forms.Error kind) (Err e) = error_kind e ≡ kind
 abbrev pub manner_spent : Manner → Manner
 manner_spent manner = record manner { failing = spent manner.failing }
 
--- What `send` answers by the manner: nothing of an empty piece; else as many bytes as it accepts next; where that is none,
--- the next fault, which is then spent.
+-- What `send` answers by the manner: nothing of an empty piece; else as many bytes as it accepts next; where that is
+-- none, the next fault, which is then spent.
 pub record Follows (old : Teller) (piece : List ℕ) (result : Result ℕ Error) (new : Teller) : Type 0 where
   pub nothing : piece ≡ [] → (result ≡ Ok 0) × (new.manner ≡ old.manner)
-  pub accepts : next_count old (length piece) ≢ 0 → (result ≡ Ok (next_count old (length piece))) × (new.manner ≡ old.manner)
-  pub fails : piece ≢ [] → next_count old (length piece) ≡ 0 → AnswersFault (next_fault old.manner.failing) result × (new.manner ≡ manner_spent old.manner)
+  pub accepts :
+      next_count old (length piece) ≢ 0 → (result ≡ Ok (next_count old (length piece))) × (new.manner ≡ old.manner)
+  pub fails :
+      piece ≢ [] → next_count old (length piece) ≡ 0 → AnswersFault (next_fault old.manner.failing) result
+      × (new.manner ≡ manner_spent old.manner)
 
 -- what `settle` answers by the manner
 abbrev pub FollowsSettling : {A : Type 0} → Option ErrorKind → Result A Error → Type 0

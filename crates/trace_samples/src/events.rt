@@ -1,7 +1,6 @@
 //! Sample event types: of each kind of slot, and with fields of each type.
 
 mod borrowed;
-mod definitions;
 mod fields;
 mod lists;
 mod names;

@@ -1,4 +1,5 @@
-//! Samples of what the library's traits ask of a user: a writer that tells all and fails as it is told, and event types.
+//! Samples of what the library's traits ask of a user: a writer that tells all and fails as it is told, and event
+//! types.
 #![tactic(auto)]
 
 pub mod events;

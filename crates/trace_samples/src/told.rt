@@ -2,7 +2,8 @@
 
 ghost use Rattle.std.specs.Prelude.{◌≡◌, ◌≢◌, ◌≤◌, ◌↔◌, [], IfOk, IsTrue, length};
 ghost use Rattle.trace_values.specs.Sending.{Took, Holds, Settles, accepted_by, send_faults, settle_faults};
-ghost use Rattle.trace_samples.specs.Telling.{all_told, new_teller, Follows, FollowsSettling, AnswersFault, manner_spent};
+ghost use Rattle.trace_samples.specs.Telling.{all_told, new_teller, Follows, FollowsSettling, AnswersFault};
+ghost use Rattle.trace_samples.specs.Telling.{manner_spent};
 ghost use Rattle.trace_samples.specs.Manners.{next_fault};
 
 use crate::manner::{Fault, Manner, ROOM};
@@ -11,8 +12,8 @@ use std::io::ErrorKind;
 use std::marker::Model;
 use trace_values::leb128::{Faults, TraceWrite};
 
-/// A writer over a fixed array. It tells the bytes that it accepted, its faults, and which bytes it has not handed on yet; it takes
-/// no memory, and fails as its manner says.
+/// A writer over a fixed array. It tells the bytes that it accepted, its faults, and which bytes it has not handed on
+/// yet; it takes no memory, and fails as its manner says.
 #[derive(Drop)]
 pub struct Told {
     buffer: [u8; ROOM],
@@ -41,8 +42,10 @@ impl TraceWrite for Told {
     /// Accepts of the piece what the manner allows. Where that is nothing, it fails by the manner, and tells the fault.
     fn send(&mut self, piece: &[u8]) -> io::Result<usize>
         ensures within { IfOk result (λ n. n ≤ length piece.now) }
-        ensures took { Took (all_told self.old) (all_told self.new) (accepted_by result piece.now) (send_faults result piece.now) }
-        ensures holds { Holds (all_told self.old) (all_told self.new) (accepted_by result piece.now) }
+        ensures took { Took (all_told self.old) (all_told self.new) (accepted_by result piece.now)
+            (send_faults result piece.now) }
+        ensures holds { Holds (all_told self.old) (all_told self.new)
+            (accepted_by result piece.now) }
         ensures follows { Follows self.old piece.now result self.new }
     {
         if piece.is_empty() {
@@ -112,9 +115,11 @@ impl Told {
     // Takes nothing of a piece that is not empty, as the manner says, and tells the fault.
     fn fail(&mut self, piece: &[u8]) -> io::Result<usize>
         requires { length piece.now ≢ 0 }
-        ensures took { Took (all_told self.old) (all_told self.new) (accepted_by result piece.now) (send_faults result piece.now) }
+        ensures took { Took (all_told self.old) (all_told self.new) (accepted_by result piece.now)
+            (send_faults result piece.now) }
         ensures fails { AnswersFault (next_fault self.old.manner.failing) result }
-        ensures same { self.new ≡ record self.old { faults = self.new.faults; manner = manner_spent self.old.manner } }
+        ensures same { self.new
+            ≡ record self.old { faults = self.new.faults; manner = manner_spent self.old.manner } }
     {
         let fault = self.manner.failing.next_fault();
         self.manner.failing = self.manner.failing.spent();

@@ -8,6 +8,7 @@ mod checks;
 mod copies;
 mod dump_faults;
 mod example;
+mod feeding;
 mod frames;
 mod layouts;
 mod lent;

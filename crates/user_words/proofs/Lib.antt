@@ -1,3 +1,3 @@
-pub mod TickLemmas
-pub mod TallyLemmas
-pub mod TornLemmas
+pub mod TwoCalls
+pub mod CountedEvents
+pub mod GoingOnAfterTorn

@@ -29,10 +29,10 @@ pub struct ScriptAnnotation {
 
 /// The definition that a whole line says: its name, its fields, and its annotations.
 ///
-/// The first error: of the name `Text` or `Utf8`, as `leading_name` tells them; of a field these of its name, `Mark(':')` after it, and
-/// `FieldType`; where something else than a field or an annotation follows, `Mark('@')`; of an annotation `Number` where no index stands,
-/// `TooLarge` where it is above 65,535, `Mark(':')` after it, `Text` or `Utf8` of the key and of the value, `Mark('=')` between them. `Memory`
-/// where a growth was refused.
+/// The first error: of the name `Text` or `Utf8`, as `leading_name` tells them; of a field these of its name,
+/// `Mark(':')` after it, and `FieldType`; where something else than a field or an annotation follows, `Mark('@')`; of
+/// an annotation `Number` where no index stands, `TooLarge` where it is above 65,535, `Mark(':')` after it, `Text` or
+/// `Utf8` of the key and of the value, `Mark('=')` between them. `Memory` where a growth was refused.
 #[tactic(auto, unfolding(crate::specs::Definitions::definition_text))]
 pub fn definition_of(alloc: Global, line: &[u8]) -> Result<Definition, LineError>
     ensures { IfOk result (λ definition. line.now ≡ definition_text definition) }

@@ -1,6 +1,7 @@
 //! The lines of a script.
 
-ghost use Rattle.std.specs.Prelude.{◌≡◌, ◌↔◌, ◌<◌, ◌≤◌, ◌++◌, ℕ, List, [], length, take, IfErr, IfOk, IfSome, IsNone, IsSome, OnOk, codes, decimal};
+ghost use Rattle.std.specs.Prelude.{◌≡◌, ◌↔◌, ◌<◌, ◌≤◌, ◌++◌, ℕ, List, [], length, take, IfErr, IfOk, IfSome, IsNone};
+ghost use Rattle.std.specs.Prelude.{IsSome, OnOk, codes, decimal};
 ghost use Rattle.std.specs.List.{flat_map, AllPass};
 ghost use Rattle.hex.specs.Hex.{is_hex_digit};
 ghost use Rattle.trace_values.specs.View.{view, views};
@@ -18,12 +19,14 @@ use hex::FromHex;
 use std::alloc::Global;
 use trace_values::types::FieldValue;
 
-/// Reads what a line asks for. A line that is empty or begins with `#`, and one that is `reset`, `resume` or `bare`, is never refused.
+/// Reads what a line asks for. A line that is empty or begins with `#`, and one that is `reset`, `resume` or `bare`, is
+/// never refused.
 ///
-/// Of any other: `ScriptCall` where its first word is that of no call with parts; else the first error of its parts, from left to right.
-/// `Mark(' ')` where a part has no space before it; `Number` of a handle, a slot or a time; what `definition_of`, `leading_value`,
-/// `leading_name`, `leading_addresses`, `pool_texts` and `pool_stacks` refuse of what the call has; `Hexadecimal` of bytes; `Excess` where
-/// more stands after a handle, a text or addresses that end the call. `Memory` where a growth was refused.
+/// Of any other: `ScriptCall` where its first word is that of no call with parts; else the first error of its parts,
+/// from left to right. `Mark(' ')` where a part has no space before it; `Number` of a handle, a slot or a time; what
+/// `definition_of`, `leading_value`, `leading_name`, `leading_addresses`, `pool_texts` and `pool_stacks` refuse of what
+/// the call has; `Hexadecimal` of bytes; `Excess` where more stands after a handle, a text or addresses that end the
+/// call. `Memory` where a growth was refused.
 pub fn call_of(alloc: Global, line: &[u8]) -> Result<ScriptCall, LineError>
     ensures says { IfOk result (λ call. Says call line.now) }
     ensures unsaid { IfErr result (λ _. SaysNoWord line.now) }
@@ -35,7 +38,7 @@ pub fn call_of(alloc: Global, line: &[u8]) -> Result<ScriptCall, LineError>
 }
 
 // What a line asks for that says nothing, or is one word.
-#[tactic(auto, using(crate::proofs::ScriptLemmas::no_word))]
+#[tactic(auto, using(crate::proofs::ScriptLines::no_word))]
 fn one_word_call(line: &[u8]) -> Option<ScriptCall>
     ensures says { IfSome result (λ call. Says call line.now) }
     ensures unsaid { IsNone result → SaysNoWord line.now }
@@ -230,8 +233,10 @@ fn hex_bytes(alloc: Global, line: &[u8]) -> Result<Vec<u8>, LineError>
 
 // The byte of the two hexadecimal digits at the front, and the rest. None where no two stand there.
 fn leading_pair(text: &[u8]) -> Option<(u8, &[u8])>
-    ensures found { IsSome result ↔ ((2 ≤ length text.now) × AllPass is_hex_digit (take 2 text.now)) }
-    ensures pair { IfSome result (λ x. (pair : List ℕ) × IsPair x.0 pair × (text.now ≡ pair ++ x.1.now)) }
+    ensures found { IsSome result
+        ↔ ((2 ≤ length text.now) × AllPass is_hex_digit (take 2 text.now)) }
+    ensures pair { IfSome result
+        (λ x. (pair : List ℕ) × IsPair x.0 pair × (text.now ≡ pair ++ x.1.now)) }
     ensures shorter { IfSome result (λ x. length x.1.now < length text.now) }
 {
     let (pair, rest) = text.split_at_checked(2)?;

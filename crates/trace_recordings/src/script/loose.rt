@@ -1,5 +1,5 @@
-//! What a part of a line seems to say. Nothing here minds how exactly a part is spelled: the caller prints what was found, and
-//! sees whether the line begins with that.
+//! What a part of a line seems to say. Nothing here minds how exactly a part is spelled: the caller prints what was
+//! found, and sees whether the line begins with that.
 
 ghost use Rattle.std.specs.Prelude.{◌≡◌, ◌-◌, ◌+◌, ◌<◌, ◌≤◌, drop, length, IfOk, IfSome};
 ghost use Rattle.trace_recordings.specs.Scripts.{Shortens};
@@ -28,8 +28,8 @@ pub fn number(text: &[u8], radix: u32) -> (u64, &[u8])
     (value, &[])
 }
 
-/// The bytes of the text in quotes at the front, and the rest. `Text` where no quote begins it or none ends it, or where what stands after
-/// `\x` are no two hexadecimal digits. `Memory` where a growth was refused.
+/// The bytes of the text in quotes at the front, and the rest. `Text` where no quote begins it or none ends it, or
+/// where what stands after `\x` are no two hexadecimal digits. `Memory` where a growth was refused.
 pub fn text(alloc: Global, line: &[u8]) -> Result<(Vec<u8>, &[u8]), LineError>
     ensures { Shortens line.now result }
 {
@@ -58,8 +58,8 @@ fn hex_byte(high: u8, low: u8) -> Option<u8> {
     u8::try_from(high * 16 + low).ok()
 }
 
-/// The addresses in brackets at the front, and the rest. `Addresses` where no bracket begins them, one has no `0x` before it, or neither a comma
-/// nor a bracket stands after it. `Memory` where a growth was refused.
+/// The addresses in brackets at the front, and the rest. `Addresses` where no bracket begins them, one has no `0x`
+/// before it, or neither a comma nor a bracket stands after it. `Memory` where a growth was refused.
 pub fn addresses(alloc: Global, line: &[u8]) -> Result<(Vec<u64>, &[u8]), LineError>
     ensures { Shortens line.now result }
 {
@@ -82,10 +82,11 @@ pub fn addresses(alloc: Global, line: &[u8]) -> Result<(Vec<u64>, &[u8]), LineEr
 
 /// The value at the front, which has at most this many values around its innermost one, and the rest.
 ///
-/// The first error from left to right: `TooLarge` of an id of a text or a stack which, as `number` reads it, is above 4,294,967,295; `Utf8` of a
-/// text that is not UTF-8; `Text` and `Addresses` as `text` and `addresses` tell them; `Mark('=')` where a pair has none after its key; `Depth`
-/// of a list or a map that has as many around it as are allowed; `Value` where no value begins, or neither a comma nor the closing mark stands
-/// after an item or a pair. `Memory` where a growth was refused.
+/// The first error from left to right: `TooLarge` of an id of a text or a stack which, as `number` reads it, is above
+/// 4,294,967,295; `Utf8` of a text that is not UTF-8; `Text` and `Addresses` as `text` and `addresses` tell them;
+/// `Mark('=')` where a pair has none after its key; `Depth` of a list or a map that has as many around it as are
+/// allowed; `Value` where no value begins, or neither a comma nor the closing mark stands after an item or a pair.
+/// `Memory` where a growth was refused.
 #[cycle(loose)]
 pub fn value(alloc: Global, levels: u32, line: &[u8]) -> Result<(FieldValue, &[u8]), LineError>
     ensures { Shortens line.now result }

@@ -1,5 +1,5 @@
-//! The parts of a line. Each is read by what it seems to say and then printed: a part that is not what is printed is refused, so
-//! that nothing is read as something else.
+//! The parts of a line. Each is read by what it seems to say and then printed: a part that is not what is printed is
+//! refused, so that nothing is read as something else.
 
 ghost use Rattle.std.specs.Prelude.{◌≡◌, ◌+◌, ◌<◌, ◌++◌, length, IfOk, IfSome, codes, decimal, string_bytes};
 ghost use Rattle.trace_values.specs.View.{view};
@@ -23,8 +23,8 @@ pub fn after_mark<'a>(line: &'a [u8], mark: &[u8]) -> Option<&'a [u8]>
     line.strip_prefix(mark)
 }
 
-/// A number in decimal digits, and the rest. `Number` where what the digits at the front say (`loose::number`) does not stand there as it is
-/// printed, and so where no digit does. `Memory` where a growth was refused.
+/// A number in decimal digits, and the rest. `Number` where what the digits at the front say (`loose::number`) does not
+/// stand there as it is printed, and so where no digit does. `Memory` where a growth was refused.
 pub fn leading_number(alloc: Global, line: &[u8]) -> Result<(u64, &[u8]), LineError>
     ensures { IfOk result (λ x. line.now ≡ decimal x.0 ++ x.1.now) }
 {
@@ -34,8 +34,8 @@ pub fn leading_number(alloc: Global, line: &[u8]) -> Result<(u64, &[u8]), LineEr
     Ok((number, rest))
 }
 
-/// The bytes of a text in quotes, and the rest. `Text` where no text in quotes stands at the front, or it is spelled in another way than it is
-/// printed. `Memory` where a growth was refused.
+/// The bytes of a text in quotes, and the rest. `Text` where no text in quotes stands at the front, or it is spelled in
+/// another way than it is printed. `Memory` where a growth was refused.
 pub fn leading_text(alloc: Global, line: &[u8]) -> Result<(Vec<u8>, &[u8]), LineError>
     ensures { IfOk result (λ x. line.now ≡ quoted x.0.items ++ x.1.now) }
 {
@@ -46,7 +46,8 @@ pub fn leading_text(alloc: Global, line: &[u8]) -> Result<(Vec<u8>, &[u8]), Line
     Ok((bytes, rest))
 }
 
-/// A text in quotes that is UTF-8, and the rest. `Text` and `Memory` as `leading_text`; `Utf8` where its bytes are not UTF-8.
+/// A text in quotes that is UTF-8, and the rest. `Text` and `Memory` as `leading_text`; `Utf8` where its bytes are not
+/// UTF-8.
 pub fn leading_name(alloc: Global, line: &[u8]) -> Result<(String, &[u8]), LineError>
     ensures { IfOk result (λ x. line.now ≡ quoted (string_bytes x.0) ++ x.1.now) }
 {
@@ -55,8 +56,8 @@ pub fn leading_name(alloc: Global, line: &[u8]) -> Result<(String, &[u8]), LineE
     Ok((name, rest))
 }
 
-/// Addresses in brackets, and the rest. `Addresses` where none stand at the front, or they are spelled in another way than they are printed.
-/// `Memory` where a growth was refused.
+/// Addresses in brackets, and the rest. `Addresses` where none stand at the front, or they are spelled in another way
+/// than they are printed. `Memory` where a growth was refused.
 pub fn leading_addresses(alloc: Global, line: &[u8]) -> Result<(Vec<u64>, &[u8]), LineError>
     ensures { IfOk result (λ x. line.now ≡ address_list x.0.items ++ x.1.now) }
 {
@@ -67,8 +68,9 @@ pub fn leading_addresses(alloc: Global, line: &[u8]) -> Result<(Vec<u64>, &[u8])
     Ok((addresses, rest))
 }
 
-/// A value as a dump shows it, and the rest. What `loose::value` refuses of one with at most `MAX_NESTING` values around its innermost; `Value`
-/// too where it is spelled in another way than it is printed. `Memory` where a growth was refused.
+/// A value as a dump shows it, and the rest. What `loose::value` refuses of one with at most `MAX_NESTING` values
+/// around its innermost; `Value` too where it is spelled in another way than it is printed. `Memory` where a growth was
+/// refused.
 pub fn leading_value(alloc: Global, line: &[u8]) -> Result<(FieldValue, &[u8]), LineError>
     ensures { IfOk result (λ x. line.now ≡ value_text (view x.0) ++ x.1.now) }
 {
@@ -79,7 +81,8 @@ pub fn leading_value(alloc: Global, line: &[u8]) -> Result<(FieldValue, &[u8]), 
     Ok((value, rest))
 }
 
-/// The name of a field type, and the rest. `FieldType` where the letters and digits at the front are the name of none. Takes no memory.
+/// The name of a field type, and the rest. `FieldType` where the letters and digits at the front are the name of none.
+/// Takes no memory.
 pub fn leading_type(line: &[u8]) -> Result<(FieldType, &[u8]), LineError>
     ensures { IfOk result (λ x. line.now ≡ type_name x.0 ++ x.1.now) }
 {

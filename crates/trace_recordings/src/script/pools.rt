@@ -23,8 +23,9 @@ pub struct PoolStack {
     pub frames: Vec<u64>,
 }
 
-/// Entries of a string pool up to the end of the line. The first error: of each entry `Mark(' ')` before its id, `Number` where no id stands,
-/// `TooLarge` where it is above 4,294,967,295, `Mark(':')` after it, and `Text` as `leading_text` tells it. `Memory` where a growth was refused.
+/// Entries of a string pool up to the end of the line. The first error: of each entry `Mark(' ')` before its id,
+/// `Number` where no id stands, `TooLarge` where it is above 4,294,967,295, `Mark(':')` after it, and `Text` as
+/// `leading_text` tells it. `Memory` where a growth was refused.
 pub fn pool_texts(alloc: Global, line: &[u8]) -> Result<Vec<PoolText>, LineError>
     ensures { IfOk result (λ v. line.now ≡ flat_map pool_text_text v.items) }
 {
@@ -38,8 +39,8 @@ pub fn pool_texts(alloc: Global, line: &[u8]) -> Result<Vec<PoolText>, LineError
     Ok(entries)
 }
 
-/// Entries of a stack pool up to the end of the line. Refuses what `pool_texts` does, with `Addresses` as `leading_addresses` tells it in
-/// place of `Text`.
+/// Entries of a stack pool up to the end of the line. Refuses what `pool_texts` does, with `Addresses` as
+/// `leading_addresses` tells it in place of `Text`.
 pub fn pool_stacks(alloc: Global, line: &[u8]) -> Result<Vec<PoolStack>, LineError>
     ensures { IfOk result (λ v. line.now ≡ flat_map pool_stack_text v.items) }
 {

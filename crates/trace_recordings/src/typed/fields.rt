@@ -13,8 +13,8 @@ use trace_values::types::{
 
 /// A field that can be made from a value.
 pub trait HoldsValue<'a>: TraceField {
-    /// The field whose value this is. `Unfit` where the value is of another kind, too large, or not UTF-8; `Memory` where a growth was
-    /// refused.
+    /// The field whose value this is. `Unfit` where the value is of another kind, too large, or not UTF-8; `Memory`
+    /// where a growth was refused.
     fn of_value(alloc: Global, value: &'a FieldValue) -> Result<Self, Unheld>
         ensures holds { IfOk result (λ x. Self.value x ≡ view value.now) };
 }

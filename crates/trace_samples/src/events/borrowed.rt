@@ -1,25 +1,28 @@
 //! An event type that borrows.
 
-ghost use Rattle.std.specs.Prelude.{◌≡◌, [], ◌∷◌, refl, IfOk};
+ghost use Rattle.std.specs.Prelude.{◌≡◌, [], ◌∷◌, refl};
 ghost use Rattle.trace_values.specs.Values.{bytes, text};
 ghost use Rattle.trace_values.specs.TraceFields.{value_of_option};
-ghost use Rattle.trace_wire.specs.Schemas.{same_entry};
+ghost use Rattle.trace_writer.specs.Definitions.{defined_entry};
 ghost use Rattle.trace_samples.specs.EventEntries.{borrowed_entry};
 
-use crate::events::definitions::{are_fields, definitions};
-use std::alloc::{AllocError, Global};
+use trace_values::fields;
 use trace_values::leb128::EncodeError;
-use trace_values::types::{BytesField, EventEncoder, FieldType, StrField, TraceField};
-use trace_wire::schema::{FieldDef, SchemaEntry};
+use trace_values::types::{BytesField, EventEncoder, FieldType, StrField};
+use trace_writer::definition::Definition;
 use trace_writer::event::TraceEvent;
+use trace_writer::fields::TraceFields;
 
-// The fields of `Borrowed`.
-const BORROWED_FIELDS: [(&str, FieldType); 4] = [
-    ("path", FieldType::String),
-    ("body", FieldType::Bytes),
-    ("note", FieldType::OptionalString),
-    ("rest", FieldType::OptionalBytes),
-];
+const BORROWED: Definition = (
+    "Borrowed",
+    &[
+        ("path", FieldType::String),
+        ("body", FieldType::Bytes),
+        ("note", FieldType::OptionalString),
+        ("rest", FieldType::OptionalBytes),
+    ],
+    &[],
+);
 
 /// Texts and bytes that are borrowed, of slot 0.
 #[derive(Drop)]
@@ -50,30 +53,10 @@ impl<'a> TraceEvent for Borrowed<'a> {
         0
     }
 
-    fn event_name() -> &'static str
-        ensures { result.now ≡ borrowed_entry.name }
+    fn definition() -> Definition
+        ensures { defined_entry result ≡ borrowed_entry }
     {
-        "Borrowed"
-    }
-
-    fn field_defs(alloc: Global) -> Result<Vec<FieldDef>, AllocError>
-        ensures { IfOk result (λ fields. fields.items ≡ borrowed_entry.fields) }
-    {
-        definitions(alloc, &BORROWED_FIELDS)
-    }
-
-    fn schema_entry(alloc: Global) -> Result<SchemaEntry, AllocError>
-        ensures { IfOk result (λ e. e ≡ borrowed_entry) }
-    {
-        let fields = Self::field_defs(alloc)?;
-        SchemaEntry::from_parts(alloc, "Borrowed", fields, Vec::new(alloc))
-    }
-
-    fn is_entry(other: &SchemaEntry) -> bool
-        ensures { result ≡ same_entry other.now borrowed_entry }
-    {
-        other.name() == "Borrowed"
-            && (are_fields(other.fields(), &BORROWED_FIELDS) && other.annotations().is_empty())
+        BORROWED
     }
 
     fn timestamp(&self) -> u64 {
@@ -81,9 +64,6 @@ impl<'a> TraceEvent for Borrowed<'a> {
     }
 
     fn encode_fields(&self, enc: &mut EventEncoder<'_>) -> Result<(), EncodeError> {
-        self.path.encode(enc)?;
-        self.body.encode(enc)?;
-        self.note.encode(enc)?;
-        self.rest.encode(enc)
+        fields!(self.path, self.body, self.note, self.rest).encode_all(enc)
     }
 }

@@ -5,19 +5,22 @@ ghost use Rattle.trace_values.specs.Values.{bytes, pooled_stack, stack, text, te
 ghost use Rattle.trace_values.specs.TraceFields.{string_pairs};
 ghost use Rattle.trace_samples.specs.EventEntries.{stacks_entry, texts_entry};
 
-use crate::events::definitions::{are_fields, definitions};
-use std::alloc::{AllocError, Global};
+use trace_values::fields;
 use trace_values::leb128::EncodeError;
-use trace_values::types::{EventEncoder, FieldType, InternedStackFrames, StackFrames, TraceField};
-use trace_wire::schema::{FieldDef, SchemaEntry};
+use trace_values::types::{EventEncoder, FieldType, InternedStackFrames, StackFrames};
+use trace_writer::definition::Definition;
 use trace_writer::event::TraceEvent;
+use trace_writer::fields::TraceFields;
 
-// The fields of `Texts`.
-const TEXTS_FIELDS: [(&str, FieldType); 3] = [
-    ("text", FieldType::String),
-    ("blob", FieldType::Bytes),
-    ("pairs", FieldType::StringMap),
-];
+const TEXTS: Definition = (
+    "Texts",
+    &[
+        ("text", FieldType::String),
+        ("blob", FieldType::Bytes),
+        ("pairs", FieldType::StringMap),
+    ],
+    &[],
+);
 
 /// A text, bytes and a map of texts, of slot 7.
 #[derive(Drop)]
@@ -44,22 +47,8 @@ impl TraceEvent for Texts {
         7
     }
 
-    fn event_name() -> &'static str {
-        "Texts"
-    }
-
-    fn field_defs(alloc: Global) -> Result<Vec<FieldDef>, AllocError> {
-        definitions(alloc, &TEXTS_FIELDS)
-    }
-
-    fn schema_entry(alloc: Global) -> Result<SchemaEntry, AllocError> {
-        let fields = Self::field_defs(alloc)?;
-        SchemaEntry::from_parts(alloc, "Texts", fields, Vec::new(alloc))
-    }
-
-    fn is_entry(other: &SchemaEntry) -> bool {
-        other.name() == "Texts"
-            && (are_fields(other.fields(), &TEXTS_FIELDS) && other.annotations().is_empty())
+    fn definition() -> Definition {
+        TEXTS
     }
 
     fn timestamp(&self) -> u64 {
@@ -67,17 +56,18 @@ impl TraceEvent for Texts {
     }
 
     fn encode_fields(&self, enc: &mut EventEncoder<'_>) -> Result<(), EncodeError> {
-        self.text.encode(enc)?;
-        self.blob.encode(enc)?;
-        self.pairs.encode(enc)
+        fields!(self.text, self.blob, self.pairs).encode_all(enc)
     }
 }
 
-// The fields of `Stacks`.
-const STACKS_FIELDS: [(&str, FieldType); 2] = [
-    ("frames", FieldType::StackFrames),
-    ("stack", FieldType::PooledStackFrames),
-];
+const STACKS: Definition = (
+    "Stacks",
+    &[
+        ("frames", FieldType::StackFrames),
+        ("stack", FieldType::PooledStackFrames),
+    ],
+    &[],
+);
 
 /// A stack, and the id of one, of slot 0.
 #[derive(Drop)]
@@ -103,22 +93,8 @@ impl TraceEvent for Stacks {
         0
     }
 
-    fn event_name() -> &'static str {
-        "Stacks"
-    }
-
-    fn field_defs(alloc: Global) -> Result<Vec<FieldDef>, AllocError> {
-        definitions(alloc, &STACKS_FIELDS)
-    }
-
-    fn schema_entry(alloc: Global) -> Result<SchemaEntry, AllocError> {
-        let fields = Self::field_defs(alloc)?;
-        SchemaEntry::from_parts(alloc, "Stacks", fields, Vec::new(alloc))
-    }
-
-    fn is_entry(other: &SchemaEntry) -> bool {
-        other.name() == "Stacks"
-            && (are_fields(other.fields(), &STACKS_FIELDS) && other.annotations().is_empty())
+    fn definition() -> Definition {
+        STACKS
     }
 
     fn timestamp(&self) -> u64 {
@@ -126,7 +102,6 @@ impl TraceEvent for Stacks {
     }
 
     fn encode_fields(&self, enc: &mut EventEncoder<'_>) -> Result<(), EncodeError> {
-        self.frames.encode(enc)?;
-        self.stack.encode(enc)
+        fields!(self.frames, self.stack).encode_all(enc)
     }
 }

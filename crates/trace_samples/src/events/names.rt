@@ -5,12 +5,14 @@ ghost use Rattle.trace_values.specs.Values.{boolean, integer};
 ghost use Rattle.trace_wire.specs.Limits.{first_wire_id};
 ghost use Rattle.trace_samples.specs.EventEntries.{also_entry, nameless_entry, other_entry};
 
-use crate::events::definitions::{are_fields, definitions};
-use std::alloc::{AllocError, Global};
+use trace_values::fields;
 use trace_values::leb128::EncodeError;
-use trace_values::types::{EventEncoder, FieldType, TraceField};
-use trace_wire::schema::{FieldDef, SchemaEntry};
+use trace_values::types::{EventEncoder, FieldType};
+use trace_writer::definition::Definition;
 use trace_writer::event::TraceEvent;
+use trace_writer::fields::TraceFields;
+
+const BY_NAME: Definition = ("Other", &[], &[]);
 
 /// An event without fields, of slot 256: it goes by its name, and has the schema of `SlotClash`.
 #[derive(Drop)]
@@ -34,21 +36,8 @@ impl TraceEvent for ByName {
         256
     }
 
-    fn event_name() -> &'static str {
-        "Other"
-    }
-
-    fn field_defs(alloc: Global) -> Result<Vec<FieldDef>, AllocError> {
-        Ok(Vec::new(alloc))
-    }
-
-    fn schema_entry(alloc: Global) -> Result<SchemaEntry, AllocError> {
-        let fields = Self::field_defs(alloc)?;
-        SchemaEntry::from_parts(alloc, "Other", fields, Vec::new(alloc))
-    }
-
-    fn is_entry(other: &SchemaEntry) -> bool {
-        other.name() == "Other" && (other.fields().is_empty() && other.annotations().is_empty())
+    fn definition() -> Definition {
+        BY_NAME
     }
 
     fn timestamp(&self) -> u64 {
@@ -60,8 +49,7 @@ impl TraceEvent for ByName {
     }
 }
 
-// The fields of `AlsoByName`.
-const ALSO_FIELDS: [(&str, FieldType); 1] = [("amount", FieldType::I64)];
+const ALSO_BY_NAME: Definition = ("Also", &[("amount", FieldType::I64)], &[]);
 
 /// An amount, of slot 256 as `ByName`.
 #[derive(Drop)]
@@ -86,22 +74,8 @@ impl TraceEvent for AlsoByName {
         256
     }
 
-    fn event_name() -> &'static str {
-        "Also"
-    }
-
-    fn field_defs(alloc: Global) -> Result<Vec<FieldDef>, AllocError> {
-        definitions(alloc, &ALSO_FIELDS)
-    }
-
-    fn schema_entry(alloc: Global) -> Result<SchemaEntry, AllocError> {
-        let fields = Self::field_defs(alloc)?;
-        SchemaEntry::from_parts(alloc, "Also", fields, Vec::new(alloc))
-    }
-
-    fn is_entry(other: &SchemaEntry) -> bool {
-        other.name() == "Also"
-            && (are_fields(other.fields(), &ALSO_FIELDS) && other.annotations().is_empty())
+    fn definition() -> Definition {
+        ALSO_BY_NAME
     }
 
     fn timestamp(&self) -> u64 {
@@ -109,12 +83,11 @@ impl TraceEvent for AlsoByName {
     }
 
     fn encode_fields(&self, enc: &mut EventEncoder<'_>) -> Result<(), EncodeError> {
-        self.amount.encode(enc)
+        fields!(self.amount).encode_all(enc)
     }
 }
 
-// The fields of `Nameless`.
-const NAMELESS_FIELDS: [(&str, FieldType); 1] = [("", FieldType::Bool)];
+const NAMELESS: Definition = ("", &[("", FieldType::Bool)], &[]);
 
 /// A flag, of a schema and a field without names.
 #[derive(Drop)]
@@ -139,22 +112,8 @@ impl TraceEvent for Nameless {
         0
     }
 
-    fn event_name() -> &'static str {
-        ""
-    }
-
-    fn field_defs(alloc: Global) -> Result<Vec<FieldDef>, AllocError> {
-        definitions(alloc, &NAMELESS_FIELDS)
-    }
-
-    fn schema_entry(alloc: Global) -> Result<SchemaEntry, AllocError> {
-        let fields = Self::field_defs(alloc)?;
-        SchemaEntry::from_parts(alloc, "", fields, Vec::new(alloc))
-    }
-
-    fn is_entry(other: &SchemaEntry) -> bool {
-        other.name() == ""
-            && (are_fields(other.fields(), &NAMELESS_FIELDS) && other.annotations().is_empty())
+    fn definition() -> Definition {
+        NAMELESS
     }
 
     fn timestamp(&self) -> u64 {
@@ -162,6 +121,6 @@ impl TraceEvent for Nameless {
     }
 
     fn encode_fields(&self, enc: &mut EventEncoder<'_>) -> Result<(), EncodeError> {
-        self.flag.encode(enc)
+        fields!(self.flag).encode_all(enc)
     }
 }

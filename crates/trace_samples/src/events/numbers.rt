@@ -4,23 +4,26 @@ ghost use Rattle.std.specs.Prelude.{[], refl, ◌∷◌, ◌≡◌};
 ghost use Rattle.trace_values.specs.Values.{boolean, float, integer, number};
 ghost use Rattle.trace_samples.specs.EventEntries.{numbers_entry};
 
-use crate::events::definitions::{are_fields, definitions};
-use std::alloc::{AllocError, Global};
+use trace_values::fields;
 use trace_values::leb128::EncodeError;
-use trace_values::types::{EventEncoder, F64Bits, FieldType, TraceField};
-use trace_wire::schema::{FieldDef, SchemaEntry};
+use trace_values::types::{EventEncoder, F64Bits, FieldType};
+use trace_writer::definition::Definition;
 use trace_writer::event::TraceEvent;
+use trace_writer::fields::TraceFields;
 
-// The fields of `Numbers`.
-const NUMBERS_FIELDS: [(&str, FieldType); 7] = [
-    ("byte", FieldType::U8),
-    ("short", FieldType::U16),
-    ("word", FieldType::U32),
-    ("long", FieldType::Varint),
-    ("signed", FieldType::I64),
-    ("real", FieldType::F64),
-    ("flag", FieldType::Bool),
-];
+const NUMBERS: Definition = (
+    "Numbers",
+    &[
+        ("byte", FieldType::U8),
+        ("short", FieldType::U16),
+        ("word", FieldType::U32),
+        ("long", FieldType::Varint),
+        ("signed", FieldType::I64),
+        ("real", FieldType::F64),
+        ("flag", FieldType::Bool),
+    ],
+    &[],
+);
 
 /// Numbers of all widths, of slot 1.
 #[derive(Drop)]
@@ -53,22 +56,8 @@ impl TraceEvent for Numbers {
         1
     }
 
-    fn event_name() -> &'static str {
-        "Numbers"
-    }
-
-    fn field_defs(alloc: Global) -> Result<Vec<FieldDef>, AllocError> {
-        definitions(alloc, &NUMBERS_FIELDS)
-    }
-
-    fn schema_entry(alloc: Global) -> Result<SchemaEntry, AllocError> {
-        let fields = Self::field_defs(alloc)?;
-        SchemaEntry::from_parts(alloc, "Numbers", fields, Vec::new(alloc))
-    }
-
-    fn is_entry(other: &SchemaEntry) -> bool {
-        other.name() == "Numbers"
-            && (are_fields(other.fields(), &NUMBERS_FIELDS) && other.annotations().is_empty())
+    fn definition() -> Definition {
+        NUMBERS
     }
 
     fn timestamp(&self) -> u64 {
@@ -76,12 +65,15 @@ impl TraceEvent for Numbers {
     }
 
     fn encode_fields(&self, enc: &mut EventEncoder<'_>) -> Result<(), EncodeError> {
-        self.byte.encode(enc)?;
-        self.short.encode(enc)?;
-        self.word.encode(enc)?;
-        self.long.encode(enc)?;
-        self.signed.encode(enc)?;
-        self.real.encode(enc)?;
-        self.flag.encode(enc)
+        fields!(
+            self.byte,
+            self.short,
+            self.word,
+            self.long,
+            self.signed,
+            self.real,
+            self.flag
+        )
+        .encode_all(enc)
     }
 }

@@ -1,35 +1,39 @@
 //! An event type whose fields may all be absent.
 
 ghost use Rattle.std.specs.Prelude.{[], refl, string_bytes, ◌∷◌, ◌≡◌};
-ghost use Rattle.trace_values.specs.Values.{boolean, bytes, float, integer, number, pooled_stack, pooled_text, stack, text, texts};
+ghost use Rattle.trace_values.specs.Values.{boolean, bytes, float, integer, number, pooled_stack, pooled_text, stack};
+ghost use Rattle.trace_values.specs.Values.{text, texts};
 ghost use Rattle.trace_values.specs.TraceFields.{string_pairs, value_of_option};
 ghost use Rattle.trace_samples.specs.EventEntries.{options_entry};
 
-use crate::events::definitions::{are_fields, definitions};
-use std::alloc::{AllocError, Global};
+use trace_values::fields;
 use trace_values::leb128::EncodeError;
 use trace_values::types::{
-    EventEncoder, F64Bits, FieldType, InternedStackFrames, InternedString, StackFrames, TraceField,
+    EventEncoder, F64Bits, FieldType, InternedStackFrames, InternedString, StackFrames,
 };
-use trace_wire::schema::{FieldDef, SchemaEntry};
+use trace_writer::definition::Definition;
 use trace_writer::event::TraceEvent;
+use trace_writer::fields::TraceFields;
 
-// The fields of `Options`.
-const OPTIONS_FIELDS: [(&str, FieldType); 13] = [
-    ("byte", FieldType::OptionalU8),
-    ("short", FieldType::OptionalU16),
-    ("word", FieldType::OptionalU32),
-    ("long", FieldType::OptionalVarint),
-    ("signed", FieldType::OptionalI64),
-    ("real", FieldType::OptionalF64),
-    ("flag", FieldType::OptionalBool),
-    ("text", FieldType::OptionalString),
-    ("blob", FieldType::OptionalBytes),
-    ("frames", FieldType::OptionalStackFrames),
-    ("label", FieldType::OptionalPooledString),
-    ("stack", FieldType::OptionalPooledStackFrames),
-    ("pairs", FieldType::OptionalStringMap),
-];
+const OPTIONS: Definition = (
+    "Options",
+    &[
+        ("byte", FieldType::OptionalU8),
+        ("short", FieldType::OptionalU16),
+        ("word", FieldType::OptionalU32),
+        ("long", FieldType::OptionalVarint),
+        ("signed", FieldType::OptionalI64),
+        ("real", FieldType::OptionalF64),
+        ("flag", FieldType::OptionalBool),
+        ("text", FieldType::OptionalString),
+        ("blob", FieldType::OptionalBytes),
+        ("frames", FieldType::OptionalStackFrames),
+        ("label", FieldType::OptionalPooledString),
+        ("stack", FieldType::OptionalPooledStackFrames),
+        ("pairs", FieldType::OptionalStringMap),
+    ],
+    &[],
+);
 
 /// A field that may be absent of each type, of slot 0.
 #[derive(Drop)]
@@ -60,8 +64,9 @@ impl TraceEvent for Options {
 
     ghost values = { λ e. value_of_option number e.byte ∷ value_of_option number e.short ∷ value_of_option number e.word
         ∷ value_of_option number e.long ∷ value_of_option integer e.signed ∷ value_of_option (λ x. float x.0) e.real
-        ∷ value_of_option boolean e.flag ∷ value_of_option (λ x. text (string_bytes x)) e.text ∷ value_of_option (λ x. bytes x.items) e.blob
-        ∷ value_of_option (λ x. stack x.0.items) e.frames ∷ value_of_option (λ x. pooled_text x.0) e.label ∷ value_of_option (λ x. pooled_stack x.0) e.stack
+        ∷ value_of_option boolean e.flag ∷ value_of_option (λ x. text (string_bytes x)) e.text
+        ∷ value_of_option (λ x. bytes x.items) e.blob ∷ value_of_option (λ x. stack x.0.items) e.frames
+        ∷ value_of_option (λ x. pooled_text x.0) e.label ∷ value_of_option (λ x. pooled_stack x.0) e.stack
         ∷ value_of_option (λ x. texts (string_pairs x.items)) e.pairs ∷ [] };
 
     ghost one_each = { λ _. refl };
@@ -70,22 +75,8 @@ impl TraceEvent for Options {
         0
     }
 
-    fn event_name() -> &'static str {
-        "Options"
-    }
-
-    fn field_defs(alloc: Global) -> Result<Vec<FieldDef>, AllocError> {
-        definitions(alloc, &OPTIONS_FIELDS)
-    }
-
-    fn schema_entry(alloc: Global) -> Result<SchemaEntry, AllocError> {
-        let fields = Self::field_defs(alloc)?;
-        SchemaEntry::from_parts(alloc, "Options", fields, Vec::new(alloc))
-    }
-
-    fn is_entry(other: &SchemaEntry) -> bool {
-        other.name() == "Options"
-            && (are_fields(other.fields(), &OPTIONS_FIELDS) && other.annotations().is_empty())
+    fn definition() -> Definition {
+        OPTIONS
     }
 
     fn timestamp(&self) -> u64 {
@@ -93,18 +84,21 @@ impl TraceEvent for Options {
     }
 
     fn encode_fields(&self, enc: &mut EventEncoder<'_>) -> Result<(), EncodeError> {
-        self.byte.encode(enc)?;
-        self.short.encode(enc)?;
-        self.word.encode(enc)?;
-        self.long.encode(enc)?;
-        self.signed.encode(enc)?;
-        self.real.encode(enc)?;
-        self.flag.encode(enc)?;
-        self.text.encode(enc)?;
-        self.blob.encode(enc)?;
-        self.frames.encode(enc)?;
-        self.label.encode(enc)?;
-        self.stack.encode(enc)?;
-        self.pairs.encode(enc)
+        fields!(
+            self.byte,
+            self.short,
+            self.word,
+            self.long,
+            self.signed,
+            self.real,
+            self.flag,
+            self.text,
+            self.blob,
+            self.frames,
+            self.label,
+            self.stack,
+            self.pairs
+        )
+        .encode_all(enc)
     }
 }

@@ -1,18 +1,18 @@
 //! Event types whose slot is their wire id.
 
 ghost use Rattle.std.specs.Prelude.{[], refl, ◌∷◌, ◌≡◌};
-ghost use Rattle.std.specs.Cmp.Lexicographic.{pointwise};
 ghost use Rattle.trace_values.specs.Values.{number};
 ghost use Rattle.trace_wire.specs.Limits.{greatest_slot};
-ghost use Rattle.trace_wire.specs.Schemas.{same_annotation};
 ghost use Rattle.trace_samples.specs.EventEntries.{annotated_entry, fast_slot_entry, last_slot_entry, other_entry};
 
-use crate::events::definitions::{are_fields, definitions};
-use std::alloc::{AllocError, Global};
+use trace_values::fields;
 use trace_values::leb128::EncodeError;
-use trace_values::types::{EventEncoder, FieldType, TraceField};
-use trace_wire::schema::{FieldAnnotation, FieldDef, SchemaEntry};
-use trace_writer::event::{TraceEvent, is_annotation};
+use trace_values::types::{EventEncoder, FieldType};
+use trace_writer::definition::Definition;
+use trace_writer::event::TraceEvent;
+use trace_writer::fields::TraceFields;
+
+const FAST_SLOT: Definition = ("FastSlot", &[], &[]);
 
 /// An event without fields, of slot 5.
 #[derive(Drop)]
@@ -36,21 +36,8 @@ impl TraceEvent for FastSlot {
         5
     }
 
-    fn event_name() -> &'static str {
-        "FastSlot"
-    }
-
-    fn field_defs(alloc: Global) -> Result<Vec<FieldDef>, AllocError> {
-        Ok(Vec::new(alloc))
-    }
-
-    fn schema_entry(alloc: Global) -> Result<SchemaEntry, AllocError> {
-        let fields = Self::field_defs(alloc)?;
-        SchemaEntry::from_parts(alloc, "FastSlot", fields, Vec::new(alloc))
-    }
-
-    fn is_entry(other: &SchemaEntry) -> bool {
-        other.name() == "FastSlot" && (other.fields().is_empty() && other.annotations().is_empty())
+    fn definition() -> Definition {
+        FAST_SLOT
     }
 
     fn timestamp(&self) -> u64 {
@@ -61,6 +48,8 @@ impl TraceEvent for FastSlot {
         Ok(())
     }
 }
+
+const SLOT_CLASH: Definition = ("Other", &[], &[]);
 
 /// An event without fields, of the slot of `FastSlot`.
 #[derive(Drop)]
@@ -84,21 +73,8 @@ impl TraceEvent for SlotClash {
         5
     }
 
-    fn event_name() -> &'static str {
-        "Other"
-    }
-
-    fn field_defs(alloc: Global) -> Result<Vec<FieldDef>, AllocError> {
-        Ok(Vec::new(alloc))
-    }
-
-    fn schema_entry(alloc: Global) -> Result<SchemaEntry, AllocError> {
-        let fields = Self::field_defs(alloc)?;
-        SchemaEntry::from_parts(alloc, "Other", fields, Vec::new(alloc))
-    }
-
-    fn is_entry(other: &SchemaEntry) -> bool {
-        other.name() == "Other" && (other.fields().is_empty() && other.annotations().is_empty())
+    fn definition() -> Definition {
+        SLOT_CLASH
     }
 
     fn timestamp(&self) -> u64 {
@@ -110,8 +86,7 @@ impl TraceEvent for SlotClash {
     }
 }
 
-// The fields of `LastSlot`.
-const LAST_SLOT_FIELDS: [(&str, FieldType); 1] = [("number", FieldType::U16)];
+const LAST_SLOT: Definition = ("LastSlot", &[("number", FieldType::U16)], &[]);
 
 /// A number, of the last slot that is a wire id.
 #[derive(Drop)]
@@ -136,22 +111,8 @@ impl TraceEvent for LastSlot {
         255
     }
 
-    fn event_name() -> &'static str {
-        "LastSlot"
-    }
-
-    fn field_defs(alloc: Global) -> Result<Vec<FieldDef>, AllocError> {
-        definitions(alloc, &LAST_SLOT_FIELDS)
-    }
-
-    fn schema_entry(alloc: Global) -> Result<SchemaEntry, AllocError> {
-        let fields = Self::field_defs(alloc)?;
-        SchemaEntry::from_parts(alloc, "LastSlot", fields, Vec::new(alloc))
-    }
-
-    fn is_entry(other: &SchemaEntry) -> bool {
-        other.name() == "LastSlot"
-            && (are_fields(other.fields(), &LAST_SLOT_FIELDS) && other.annotations().is_empty())
+    fn definition() -> Definition {
+        LAST_SLOT
     }
 
     fn timestamp(&self) -> u64 {
@@ -159,12 +120,15 @@ impl TraceEvent for LastSlot {
     }
 
     fn encode_fields(&self, enc: &mut EventEncoder<'_>) -> Result<(), EncodeError> {
-        self.number.encode(enc)
+        fields!(self.number).encode_all(enc)
     }
 }
 
-// The fields of `Annotated`.
-const ANNOTATED_FIELDS: [(&str, FieldType); 1] = [("load", FieldType::U8)];
+const ANNOTATED: Definition = (
+    "Annotated",
+    &[("load", FieldType::U8)],
+    &[(0, "unit", "ns"), (65535, "", "")],
+);
 
 /// A load with two annotations, one of them of no field, of slot 9.
 #[derive(Drop)]
@@ -189,26 +153,8 @@ impl TraceEvent for Annotated {
         9
     }
 
-    fn event_name() -> &'static str {
-        "Annotated"
-    }
-
-    fn field_defs(alloc: Global) -> Result<Vec<FieldDef>, AllocError> {
-        definitions(alloc, &ANNOTATED_FIELDS)
-    }
-
-    fn schema_entry(alloc: Global) -> Result<SchemaEntry, AllocError> {
-        let fields = Self::field_defs(alloc)?;
-        let mut annotations = Vec::new(alloc);
-        annotations.push(FieldAnnotation::new(alloc, 0, "unit", "ns")?)?;
-        annotations.push(FieldAnnotation::new(alloc, 65535, "", "")?)?;
-        SchemaEntry::from_parts(alloc, "Annotated", fields, annotations)
-    }
-
-    fn is_entry(other: &SchemaEntry) -> bool {
-        other.name() == "Annotated"
-            && (are_fields(other.fields(), &ANNOTATED_FIELDS)
-                && are_annotated_annotations(other.annotations()))
+    fn definition() -> Definition {
+        ANNOTATED
     }
 
     fn timestamp(&self) -> u64 {
@@ -216,17 +162,6 @@ impl TraceEvent for Annotated {
     }
 
     fn encode_fields(&self, enc: &mut EventEncoder<'_>) -> Result<(), EncodeError> {
-        self.load.encode(enc)
-    }
-}
-
-/// Whether these are the annotations of `Annotated`.
-fn are_annotated_annotations(annotations: &[FieldAnnotation]) -> bool
-    ensures { result ≡ pointwise same_annotation annotations.now annotated_entry.annotations }
-{
-    match annotations {
-        [first, second] => is_annotation(first, 0, "unit", "ns")
-            && is_annotation(second, 65535, "", ""),
-        _ => false,
+        fields!(self.load).encode_all(enc)
     }
 }

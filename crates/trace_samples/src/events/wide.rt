@@ -1,41 +1,42 @@
 //! An event type with many fields.
 
 ghost use Rattle.std.specs.Prelude.{[], refl, ◌∷◌, ◌≡◌};
-ghost use Rattle.std.specs.Cmp.Lexicographic.{pointwise};
 ghost use Rattle.trace_values.specs.Values.{number};
-ghost use Rattle.trace_wire.specs.Schemas.{same_field};
 ghost use Rattle.trace_samples.specs.EventEntries.{wide_entry};
 
-use crate::events::definitions::{are_fields, definitions};
-use std::alloc::{AllocError, Global};
+use trace_values::fields;
 use trace_values::leb128::EncodeError;
-use trace_values::types::{EventEncoder, FieldType, TraceField};
-use trace_wire::schema::{FieldDef, SchemaEntry};
+use trace_values::types::{EventEncoder, FieldType};
+use trace_writer::definition::Definition;
 use trace_writer::event::TraceEvent;
+use trace_writer::fields::TraceFields;
 
-// The fields of `Wide`.
-const WIDE_FIELDS: [(&str, FieldType); 20] = [
-    ("v0", FieldType::Varint),
-    ("v1", FieldType::Varint),
-    ("v2", FieldType::Varint),
-    ("v3", FieldType::Varint),
-    ("v4", FieldType::Varint),
-    ("v5", FieldType::Varint),
-    ("v6", FieldType::Varint),
-    ("v7", FieldType::Varint),
-    ("v8", FieldType::Varint),
-    ("v9", FieldType::Varint),
-    ("v10", FieldType::Varint),
-    ("v11", FieldType::Varint),
-    ("v12", FieldType::Varint),
-    ("v13", FieldType::Varint),
-    ("v14", FieldType::Varint),
-    ("v15", FieldType::Varint),
-    ("v16", FieldType::Varint),
-    ("v17", FieldType::Varint),
-    ("v18", FieldType::Varint),
-    ("v19", FieldType::Varint),
-];
+const WIDE: Definition = (
+    "Wide",
+    &[
+        ("v0", FieldType::Varint),
+        ("v1", FieldType::Varint),
+        ("v2", FieldType::Varint),
+        ("v3", FieldType::Varint),
+        ("v4", FieldType::Varint),
+        ("v5", FieldType::Varint),
+        ("v6", FieldType::Varint),
+        ("v7", FieldType::Varint),
+        ("v8", FieldType::Varint),
+        ("v9", FieldType::Varint),
+        ("v10", FieldType::Varint),
+        ("v11", FieldType::Varint),
+        ("v12", FieldType::Varint),
+        ("v13", FieldType::Varint),
+        ("v14", FieldType::Varint),
+        ("v15", FieldType::Varint),
+        ("v16", FieldType::Varint),
+        ("v17", FieldType::Varint),
+        ("v18", FieldType::Varint),
+        ("v19", FieldType::Varint),
+    ],
+    &[],
+);
 
 /// Twenty numbers, of slot 0.
 #[derive(Drop)]
@@ -85,22 +86,8 @@ impl TraceEvent for Wide {
         0
     }
 
-    fn event_name() -> &'static str {
-        "Wide"
-    }
-
-    fn field_defs(alloc: Global) -> Result<Vec<FieldDef>, AllocError> {
-        definitions(alloc, &WIDE_FIELDS)
-    }
-
-    fn schema_entry(alloc: Global) -> Result<SchemaEntry, AllocError> {
-        let fields = Self::field_defs(alloc)?;
-        SchemaEntry::from_parts(alloc, "Wide", fields, Vec::new(alloc))
-    }
-
-    fn is_entry(other: &SchemaEntry) -> bool {
-        other.name() == "Wide"
-            && (are_wide_fields(other.fields()) && other.annotations().is_empty())
+    fn definition() -> Definition {
+        WIDE
     }
 
     fn timestamp(&self) -> u64 {
@@ -108,32 +95,11 @@ impl TraceEvent for Wide {
     }
 
     fn encode_fields(&self, enc: &mut EventEncoder<'_>) -> Result<(), EncodeError> {
-        self.v0.encode(enc)?;
-        self.v1.encode(enc)?;
-        self.v2.encode(enc)?;
-        self.v3.encode(enc)?;
-        self.v4.encode(enc)?;
-        self.v5.encode(enc)?;
-        self.v6.encode(enc)?;
-        self.v7.encode(enc)?;
-        self.v8.encode(enc)?;
-        self.v9.encode(enc)?;
-        self.v10.encode(enc)?;
-        self.v11.encode(enc)?;
-        self.v12.encode(enc)?;
-        self.v13.encode(enc)?;
-        self.v14.encode(enc)?;
-        self.v15.encode(enc)?;
-        self.v16.encode(enc)?;
-        self.v17.encode(enc)?;
-        self.v18.encode(enc)?;
-        self.v19.encode(enc)
+        fields!(
+            self.v0, self.v1, self.v2, self.v3, self.v4, self.v5, self.v6, self.v7, self.v8,
+            self.v9, self.v10, self.v11, self.v12, self.v13, self.v14, self.v15, self.v16,
+            self.v17, self.v18, self.v19
+        )
+        .encode_all(enc)
     }
-}
-
-// Whether these are the fields of `Wide`.
-fn are_wide_fields(fields: &[FieldDef]) -> bool
-    ensures { result ≡ pointwise same_field fields.now wide_entry.fields }
-{
-    are_fields(fields, &WIDE_FIELDS)
 }

@@ -1,6 +1,7 @@
 //! Events of a type that is known: no schema is made for them.
 
 use crate::tests::calls::{fresh, put};
+use dial9_trace_format::definition::Definition;
 use dial9_trace_format::encoder::Encoder;
 use dial9_trace_format::leb128::EncodeError;
 use dial9_trace_format::schema::{FieldDef, SchemaEntry};
@@ -30,8 +31,8 @@ impl<T: TraceEvent + Drop> TraceEvent for Unmade<T> {
         T::type_slot()
     }
 
-    fn event_name() -> &'static str {
-        T::event_name()
+    fn definition() -> Definition {
+        T::definition()
     }
 
     fn field_defs(_alloc: Global) -> Result<Vec<FieldDef>, AllocError> {

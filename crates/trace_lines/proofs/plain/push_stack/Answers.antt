@@ -2,5 +2,5 @@ use Rattle.std.proofs.Common.{refl}
 use Rattle.trace_lines.proofs.AppendedParts.{in_two}
 use Rattle.trace_lines.proofs.plain.push_stack.Goals as goal
 
-pub returns-2 : goal.returns-2
-returns-2 c = in_two c.push_addresses.result _ _ _ _ _ _ refl c.in-Ok-tri.ensures.bytes c.push_addresses.ensures
+pub returns : goal.returns
+returns c = in_two c.push_addresses.result _ _ _ _ _ _ refl c.in_ok-push_str.ensures.bytes c.push_addresses.ensures

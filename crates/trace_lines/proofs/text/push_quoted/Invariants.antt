@@ -4,4 +4,5 @@ use Rattle.trace_lines.specs.Lines.{quoted_byte}
 use Rattle.trace_lines.proofs.text.push_quoted.Given as goal
 
 abbrev pub invariant-loop-byte : goal.invariant-loop-byte
-invariant-loop-byte l = string_bytes l.out ≡ string_bytes l.initial.out ++ flat_map quoted_byte (take l.byte-index l.bytes)
+invariant-loop-byte l =
+    string_bytes l.out ≡ string_bytes l.initial.out ++ flat_map quoted_byte (take l.byte-index l.bytes)

@@ -1,11 +1,33 @@
-use Rattle.std.proofs.Common.{◌≡◌, ◌++◌, take, string_bytes, codes}
-use Rattle.std.specs.List.{flat_map}
-use Rattle.trace_values.specs.View.{view}
+use Rattle.std.proofs.Common.{◌≡◌, ◌+◌, ◌*◌, ◌++◌, take, string_bytes, codes}
+use Rattle.std.specs.List.{join_by}
+use denote.Param.Weighed.{most}
 use Rattle.trace_lines.specs.Lines.{value_text}
+use Rattle.trace_lines.proofs.Depths.{pair_depth}
 use Rattle.trace_lines.proofs.value.+value.Given as goal
 
-abbrev pub invariant-push_items-loop-item : goal.invariant-push_items-loop-item
-invariant-push_items-loop-item l = string_bytes l.out ≡ string_bytes l.initial.out ++ flat_map (λ v. codes "," ++ value_text (view v)) (take l.item-index l.others)
+abbrev pub decreases-push_line_value : goal.decreases-push_line_value
+decreases-push_line_value g l = 3 * g.V.LineValue.depth l.value.now + 0
 
-abbrev pub invariant-push_pairs-loop-pair : goal.invariant-push_pairs-loop-pair
-invariant-push_pairs-loop-pair l = string_bytes l.out ≡ string_bytes l.initial.out ++ flat_map (λ p. codes "," ++ (value_text (view p.0) ++ codes "=" ++ value_text (view p.1))) (take l.pair-index l.others)
+abbrev pub decreases-push_list : goal.decreases-push_list
+decreases-push_list g l = 3 * most g.V.LineValue.depth l.items.now + 2
+
+abbrev pub decreases-push_map : goal.decreases-push_map
+decreases-push_map g l = 3 * most (pair_depth g.V.LineValue.depth) l.pairs.now + 2
+
+abbrev pub decreases-push_items : goal.decreases-push_items
+decreases-push_items g l = 3 * most g.V.LineValue.depth l.items.now + 1
+
+abbrev pub decreases-push_pairs : goal.decreases-push_pairs
+decreases-push_pairs g l = 3 * most (pair_depth g.V.LineValue.depth) l.pairs.now + 1
+
+abbrev pub invariant-push_items-items : goal.invariant-push_items-items
+invariant-push_items-items g l =
+    string_bytes l.out
+    ≡ string_bytes l.initial.out ++ join_by (λ v. value_text (g.V.LineValue.value v)) (codes ",")
+    (take l.index l.items)
+
+abbrev pub invariant-push_pairs-pairs : goal.invariant-push_pairs-pairs
+invariant-push_pairs-pairs g l =
+    let value = g.V.LineValue.value in
+    string_bytes l.out ≡ string_bytes l.initial.out
+    ++ join_by (λ p. value_text (value p.0) ++ codes "=" ++ value_text (value p.1)) (codes ",") (take l.index l.pairs)

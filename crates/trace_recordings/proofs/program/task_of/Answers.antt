@@ -1,5 +1,5 @@
 use Rattle.std.proofs.Common.{rules, ◌≡◌, ◌∷◌, [], string_bytes}
-use Rattle.trace_lines.proofs.ProgramLemmas.{one_word}
+use Rattle.trace_lines.proofs.WordsAndReadings.{one_word}
 use Rattle.trace_recordings.proofs.program.task_of.Goals as goal
 
 pub returns-in-len1 : goal.returns-in-len1

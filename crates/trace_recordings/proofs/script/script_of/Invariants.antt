@@ -1,5 +1,5 @@
 use Rattle.std.proofs.Common.{length}
-use Rattle.trace_recordings.proofs.ScriptLemmas.{SayFront}
+use Rattle.trace_recordings.proofs.ScriptLines.{SayFront}
 use Rattle.trace_recordings.proofs.script.script_of.Given as goal
 
 abbrev pub invariant-loop-calls : goal.invariant-loop-calls

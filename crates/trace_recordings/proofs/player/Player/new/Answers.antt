@@ -1,6 +1,6 @@
 use Rattle.std.proofs.Common.{rules, ◌≡◌}
 use Rattle.trace_writer.specs.Calls.{fresh_state, header}
-use Rattle.trace_recordings.proofs.PlayingLemmas.{started}
+use Rattle.trace_recordings.proofs.ScriptTurns.{started}
 use Rattle.trace_recordings.proofs.player.Player.new.Goals as goal
 
 pub returns-clause-started : goal.returns-clause-started

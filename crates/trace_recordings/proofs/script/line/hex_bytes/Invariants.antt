@@ -1,5 +1,5 @@
 use Rattle.std.proofs.Common.{length}
-use Rattle.trace_recordings.proofs.DigitLemmas.{DigitsBefore}
+use Rattle.trace_recordings.proofs.DigitPairs.{DigitsBefore}
 use Rattle.trace_recordings.proofs.script.line.hex_bytes.Given as goal
 
 abbrev pub invariant-pairs : goal.invariant-pairs

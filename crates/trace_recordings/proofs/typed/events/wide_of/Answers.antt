@@ -1,5 +1,5 @@
 use Rattle.std.proofs.Common.{refl, length, ◌≤◌, arith}
-use Rattle.trace_recordings.proofs.SampleLemmas.{number_more, no_number_more}
+use Rattle.trace_recordings.proofs.EventValues.{number_more, no_number_more}
 use Rattle.trace_recordings.proofs.typed.events.wide_of.Goals as goal
 
 pub returns-clause-numbers : goal.returns-clause-numbers

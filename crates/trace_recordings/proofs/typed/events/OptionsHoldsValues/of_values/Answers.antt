@@ -3,7 +3,7 @@ use Rattle.trace_values.specs.Values.{Value}
 use Rattle.trace_values.specs.View.{views}
 use Rattle.trace_values.specs.declared.types.field_value.FieldValue.{FieldValue}
 use Rattle.trace_recordings.specs.Events.{optional_texts}
-use Rattle.trace_recordings.proofs.SampleLemmas.{views_parts}
+use Rattle.trace_recordings.proofs.EventValues.{views_parts}
 use Rattle.trace_recordings.proofs.typed.events.OptionsHoldsValues.of_values.Goals as goal
 
 pub returns-clause-values : goal.returns-clause-values

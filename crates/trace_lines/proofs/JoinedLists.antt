@@ -1,0 +1,44 @@
+-- A list whose elements are parted by commas, as it is appended.
+use Rattle.std.proofs.Common.{◌≡◌, ℕ, ◌+◌, ◌<◌, List, [], ◌∷◌, ◌++◌, codes, length, take, get_or, sym, ap}
+use Rattle.std.proofs.Common.{◌∙◌}
+use Rattle.std.proofs.Common.{append_assoc, append-nil, arith, rules, suc}
+use Rattle.std.specs.List.{join_by}
+use Rattle.std.proofs.lemmas.List.{flat_map_more, take_more, length-take-le, get_or_default}
+use Rattle.trace_lines.specs.Lines.{comma_before}
+
+-- a comma stands before each but the first
+comma_later : {A : Type 0} (xs : List A) → comma_before (suc (length xs)) ≡ codes ","
+comma_later xs = search rules
+
+-- one element more
+joined_push :
+    {A : Type 0} (shown : A → List ℕ) (xs : List A) (x : A) →
+    join_by shown (codes ",") (xs ++ x ∷ []) ≡ join_by shown (codes ",") xs ++ (comma_before (length xs) ++ shown x)
+joined_push shown [] x = append-nil (shown x)
+joined_push shown (first ∷ xs) x =
+    rw (comma_later xs) (sym (flat_map_more (λ y. codes "," ++ shown y) (shown first) xs x))
+
+-- the same where the elements are those before an index
+pub joined_more :
+    {A : Type 0} {now comma new : List ℕ} (shown : A → List ℕ) (old : List ℕ) (xs : List A) (i : ℕ) (x : A) →
+    i < length xs → x ≡ get_or xs i x → now ≡ old ++ join_by shown (codes ",") (take i xs) →
+    comma ≡ now ++ comma_before i →
+    new ≡ comma ++ shown x → new ≡ old ++ join_by shown (codes ",") (take (i + 1) xs)
+joined_more {A} shown old xs i x lt is before put_comma put =
+    let so_far = join_by shown (codes ",") (take i xs) in
+    let here : take (i + 1) xs ≡ take i xs ++ x ∷ [] =
+    take_more xs i x lt ∙ ap (λ (y : A). take i xs ++ y ∷ []) (sym is) in
+    let one : join_by shown (codes ",") (take (i + 1) xs) ≡ so_far ++ (comma_before i ++ shown x) =
+    ap (join_by shown (codes ",")) here ∙ joined_push shown (take i xs) x
+    ∙ ap (λ (k : ℕ). so_far ++ (comma_before k ++ shown x)) (length-take-le i xs (omega arith)) in
+    put ∙ ap (λ (t : List ℕ). t ++ shown x) (put_comma ∙ ap (λ (t : List ℕ). t ++ comma_before i) before)
+    ∙ append_assoc (old ++ so_far) (comma_before i) (shown x) ∙ append_assoc old so_far (comma_before i ++ shown x)
+    ∙ ap (λ (t : List ℕ). old ++ t) (sym one)
+
+-- the same of an element that is read where it stands
+pub joined_read :
+    {A : Type 0} {now comma new : List ℕ} (shown : A → List ℕ) (old : List ℕ) (xs : List A) (i : ℕ) (d : A) →
+    i < length xs → now ≡ old ++ join_by shown (codes ",") (take i xs) → comma ≡ now ++ comma_before i →
+    new ≡ comma ++ shown (get_or xs i d) → new ≡ old ++ join_by shown (codes ",") (take (i + 1) xs)
+joined_read shown old xs i d lt before put_comma put =
+    joined_more shown old xs i (get_or xs i d) lt (get_or_default xs i d (get_or xs i d) lt) before put_comma put

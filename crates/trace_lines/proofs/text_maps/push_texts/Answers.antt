@@ -1,0 +1,10 @@
+use Rattle.std.proofs.Common.{string_bytes}
+use Rattle.trace_lines.proofs.AppendedParts.{both_put, put_last}
+use Rattle.trace_lines.proofs.ValueTexts.{text_of_texts}
+use Rattle.trace_lines.proofs.text_maps.push_texts.Goals as goal
+
+pub returns : goal.returns
+returns g c =
+    put_last c.push.result _ _ _ _ _ _ (text_of_texts g.P.TextPair.texts c.args.pairs.now)
+    (both_put (string_bytes c.args.out.now) _ _ _ _ c.in_ok-push_str.ensures.bytes c.in_ok-push_text_pairs.ensures)
+    c.push.ensures.bytes

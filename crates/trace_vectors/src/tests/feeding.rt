@@ -1,0 +1,117 @@
+//! A trace that is fed in pieces.
+
+use crate::tests::calls::{all, decoder_of};
+use crate::tests::traces::{CONFLICT, ONE_EVENT, THREE_EVENTS};
+use dial9_trace_format::codec::WireTypeId;
+use dial9_trace_format::decoder::{DecodeError, DecodeErrorKind, FeedDecoder};
+use std::alloc::Global;
+use std::test::Fail;
+
+/// So many frames were given, and the decoder is at this place.
+fn gives(feed: &mut FeedDecoder, piece: &[u8], count: usize, place: usize) -> Result<bool, Fail> {
+    Ok(feed.feed(piece)?.len() == count && feed.position() == place)
+}
+
+/// The decoder has failed by this kind, here.
+fn has_failed(feed: &FeedDecoder, kind: DecodeErrorKind, place: usize) -> bool {
+    match feed.fault() {
+        Some(fault) => fault.kind == kind && fault.pos == place,
+        None => false,
+    }
+}
+
+/// The piece is refused by this kind.
+fn is_refused(feed: &mut FeedDecoder, piece: &[u8], kind: DecodeErrorKind) -> bool {
+    match feed.feed(piece) {
+        Ok(_) => false,
+        Err(fault) => fault.kind == kind,
+    }
+}
+
+#[test]
+fn one_event_in_pieces(rt: HostRuntime) -> Result<(), Fail> {
+    let mut feed = FeedDecoder::new(rt.alloc());
+    assert!(rt; gives(&mut feed, &ONE_EVENT[..4], 0, 0)? && feed.version() == None);
+    assert!(rt; gives(&mut feed, &ONE_EVENT[4..5], 0, 5)? && feed.version() == Some(1));
+    assert!(rt; gives(&mut feed, &ONE_EVENT[5..18], 0, 5)?);
+    assert!(rt; gives(&mut feed, &ONE_EVENT[18..19], 1, 19)?);
+    assert!(rt; gives(&mut feed, &[], 0, 19)?);
+    assert!(rt; gives(&mut feed, &ONE_EVENT[19..], 1, 26)? && feed.fed_len() == 26);
+    Ok(())
+}
+
+/// How many frames are given of bytes one by one.
+fn count_one_by_one(feed: &mut FeedDecoder, bytes: &[u8]) -> Result<usize, DecodeError> {
+    let mut count: usize = 0;
+    for piece in bytes.chunks(1) {
+        count = count.saturating_add(feed.feed(piece)?.len());
+    }
+    Ok(count)
+}
+
+#[test]
+fn conflict_one_by_one(rt: HostRuntime) -> Result<(), Fail> {
+    let mut feed = FeedDecoder::new(rt.alloc());
+    assert!(rt; count_one_by_one(&mut feed, &CONFLICT)? == 2);
+    assert!(rt; has_failed(&feed, DecodeErrorKind::Conflict(WireTypeId(256)), 40));
+    assert!(rt;
+        is_refused(&mut feed, &[], DecodeErrorKind::Conflict(WireTypeId(256)))
+            && feed.fed_len() == 40
+    );
+    Ok(())
+}
+
+#[test]
+fn no_header(rt: HostRuntime) -> Result<(), Fail> {
+    let mut feed = FeedDecoder::new(rt.alloc());
+    assert!(rt; is_refused(&mut feed, &[0, 0, 0, 0, 1], DecodeErrorKind::NoHeader));
+    assert!(rt; has_failed(&feed, DecodeErrorKind::NoHeader, 0) && feed.fed_len() == 0);
+    Ok(())
+}
+
+/// Fed in pieces of a length, the trace gives as many frames as at once.
+fn gives_as_many(alloc: Global, bytes: &[u8], length: usize) -> Result<bool, Fail> {
+    let mut decoder = decoder_of(alloc, bytes)?;
+    let mut feed = FeedDecoder::new(alloc);
+    let wanted = all(&mut decoder)?;
+    let mut frames = Vec::new(alloc);
+    for piece in bytes.chunks(length.max(1)) {
+        frames.extend(feed.feed(piece)?)?;
+    }
+    Ok(frames == wanted && feed.position() == decoder.position())
+}
+
+#[test]
+fn in_any_pieces(rt: HostRuntime) -> Result<(), Fail> {
+    for length in 1..8 {
+        assert!(rt; gives_as_many(rt.alloc(), &ONE_EVENT, length)?);
+        assert!(rt; gives_as_many(rt.alloc(), &THREE_EVENTS, length)?);
+        assert!(rt; gives_as_many(rt.alloc(), &CONFLICT, length)?);
+    }
+    Ok(())
+}
+
+/// Two traces, one after the other.
+fn twice(alloc: Global) -> Result<Vec<u8>, Fail> {
+    let mut bytes = Vec::new(alloc);
+    bytes.extend_from_slice(&ONE_EVENT)?;
+    bytes.extend_from_slice(&ONE_EVENT)?;
+    Ok(bytes)
+}
+
+/// Cut here into two pieces, the bytes give so many frames.
+fn gives_cut(alloc: Global, bytes: &[u8], cut: usize, count: usize) -> Result<bool, Fail> {
+    let mut feed = FeedDecoder::new(alloc);
+    let first = feed.feed(&bytes[..cut])?.len();
+    let second = feed.feed(&bytes[cut..])?.len();
+    Ok(first.saturating_add(second) == count && feed.position() == bytes.len())
+}
+
+#[test]
+fn two_traces_cut_anywhere(rt: HostRuntime) -> Result<(), Fail> {
+    let bytes = twice(rt.alloc())?;
+    for cut in 0..bytes.len() {
+        assert!(rt; gives_cut(rt.alloc(), bytes.as_slice(), cut, 4)?);
+    }
+    Ok(())
+}

@@ -1,0 +1,238 @@
+#!/usr/bin/env python3
+"""What a page makes of its data, by the rules of viewer/DATA.md alone, for the script that tests pages.
+
+`Model` has the events of some data, with their shapes, names, tracks and lengths; the rows and counters of the
+timeline; what a search finds; and the text of a value. Nothing of it is fast, and nothing of it is the page's."""
+import json
+import operator
+import re
+
+SCALES = {"ns": 1, "us": 1e3, "ms": 1e6, "s": 1e9, "B": 1, "KiB": 2**10, "MiB": 2**20, "GiB": 2**30}
+TIMES = ("ns", "us", "ms", "s")
+OPERATORS = {"=": operator.eq, "!=": operator.ne, "<": operator.lt, "<=": operator.le, ">": operator.gt,
+             ">=": operator.ge}
+
+
+def kind_of(name):
+    plain = name.removeprefix("Optional").removeprefix("Pooled").removeprefix("Dynamic")
+    return "Varint" if plain in ("U8", "U16", "U32") else plain
+
+
+def is_number(kind):
+    return kind in ("I64", "Varint", "F64")
+
+
+class Event:
+    """An event of some data, by the rules of viewer/DATA.md."""
+
+    def __init__(self, data, number, schema, time, values):
+        self.data, self.number, self.schema, self.values = data, number, schema, values
+        # (the place on the timeline is a double, as all that a page draws)
+        self.time, self.place, self.roles = int(time), float(int(time)), schema["roles"]
+        self.group = self.roles["begin"] if self.roles["begin"] is not None else self.roles["end"]
+        self.length = self.partner = None
+        self.is_slice = self.is_open = False
+
+    def fields(self):
+        return [(field["name"], kind_of(field["type"]), field, value)
+                for field, value in zip(self.schema["fields"], self.values)]
+
+    def role(self, name):
+        return self.fields()[self.roles[name]] if self.roles[name] is not None else (None, None, None, None)
+
+    def shape(self):
+        order = ("begin", "begin"), ("end", "end"), ("duration", "slice")
+        return next((shape for role, shape in order if self.roles[role] is not None), "instant")
+
+    def base_name(self):
+        return self.schema["name"] if self.group is None else self.group
+
+    def label(self):
+        _, kind, _, value = self.role("name")
+        return self.data["strings"][value] if kind == "String" and isinstance(value, int) else self.base_name()
+
+    def track(self):
+        """What its track is known by: its sort, and what it has for a key."""
+        _, kind, _, value = self.role("tid")
+        if kind in ("I64", "Varint") and isinstance(value, (int, str)):
+            return 0, int(value)
+        if kind == "String" and isinstance(value, int):
+            return 1, self.data["strings"][value]
+        return 2, self.base_name()
+
+    def track_name(self, tracks):
+        return tracks[self.track()]
+
+    def end(self):
+        return self.place + (self.length or 0)
+
+
+class Model:
+    """What a page makes of some data."""
+
+    def __init__(self, data):
+        self.data, self.events, at = data, [], 0
+        columns = data["events"]
+        for number, (schema, time) in enumerate(zip(columns["schema"], columns["time"])):
+            schema = data["schemas"][schema]
+            size = len(schema["fields"])
+            self.events.append(Event(data, number, schema, time, columns["values"][at:at + size]))
+            at += size
+        self.tracks = {}
+        for event in self.events:
+            name = f"{event.role('tid')[0]} {event.track()[1]}" if event.track()[0] == 0 else event.track()[1]
+            self.tracks.setdefault(event.track(), name)
+        self.pair()
+
+    def pair(self):
+        opened = {}
+        for event in self.events:
+            key = event.track(), event.group
+            if event.shape() == "slice":
+                _, kind, field, value = event.role("duration")
+                number = float(value) if is_number(kind) and isinstance(value, (int, float, str)) else 0
+                length = number * (SCALES[field["unit"]] if field["unit"] in TIMES else 1)
+                event.length = length if 0 < length < float("inf") else 0
+            elif event.shape() == "begin":
+                opened.setdefault(key, []).append(event)
+            elif event.shape() == "end" and opened.get(key):
+                begin = opened[key].pop()
+                event.partner, begin.partner = begin, event
+                begin.length = max(0, event.place - begin.place)
+        most = max([0, *(event.end() for event in self.events)])
+        for event in (event for events in opened.values() for event in events):
+            event.length, event.is_open = max(0, most - event.place), True
+
+    def lanes(self):
+        """The sort, the track and the size of each row of the timeline that has no counter."""
+        order = {key: at for at, key in enumerate(self.tracks)}
+        found = []
+        for key in sorted(self.tracks, key=lambda it: (it[0], it[1] if it[0] < 2 else order[it])):
+            events = [event for event in self.events if event.track() == key]
+            marks = [event for event in events if event.length is None and event.partner is None and not (
+                event.shape() == "instant" and any(field["counter"] for field in event.schema["fields"]))]
+            rows = []
+            for event in sorted((event for event in events if event.length is not None),
+                                key=lambda it: (it.place, -it.length, it.number)):
+                at = next((at for at, row in enumerate(rows) if row[-1].end() <= event.place), len(rows))
+                rows[at:at + 1] = [rows[at] + [event]] if at < len(rows) else [[event]]
+            name = self.tracks[key]
+            found += [["marks", name, len(marks)]] * bool(marks) + [["slices", name, len(row)] for row in rows]
+        return found
+
+    def counters(self):
+        """The schema, field and track of each counter, how many points it has, and its last value."""
+        found = {}
+        for schema in self.data["schemas"]:
+            for at, field in enumerate(schema["fields"]):
+                if field["counter"] is None or not is_number(kind_of(field["type"])):
+                    continue
+                for event in (event for event in self.events if event.schema is schema):
+                    value = float("nan") if event.values[at] is None else float(event.values[at])
+                    if value - value != 0:
+                        continue
+                    key = schema["name"], field["name"], self.tracks[event.track()]
+                    points, last = found.get(key, (0, 0))
+                    found[key] = points + 1, value if field["counter"] == "gauge" else last + value
+        return sorted([*key, *it] for key, it in found.items())
+
+    # (search)
+
+    def words(self, query):
+        names = {"event", "track", "time", "length"}
+        names |= {field["name"] for schema in self.data["schemas"] for field in schema["fields"]}
+        for token in re.findall(r'(?:[^\s"]|"[^"]*"?)+', query):
+            parts = re.fullmatch(r'([^"=<>!]+|"[^"]+")(!=|<=|>=|=|<|>)(.*)', token, re.S)
+            if parts and parts[1].replace('"', "") in names:
+                yield parts[1].replace('"', ""), parts[2], parts[3].replace('"', "").lower()
+            elif token.replace('"', ""):
+                yield None, token.startswith('"'), token.replace('"', "").lower()
+
+    def found(self, query):
+        words = list(self.words(query))
+        return [event for event in self.events if all(self.finds(word, event) for word in words)]
+
+    def finds(self, word, event):
+        name, how, text = word
+        if name is None:
+            number = None if how else float(text) if re.fullmatch(r"-?\d+(\.\d+)?(e[-+]?\d+)?", text) else None
+            own = [event.schema["name"], event.group or ""]
+            return any(text in it.lower() for it in own) or any(
+                self.holds(text, number, kind, value) for _, kind, _, value in event.fields())
+        fields = [(kind, field["unit"], value) for its, kind, field, value in event.fields() if its == name]
+        own = {"event": ("Text", None, event.schema["name"]), "track": ("Text", None, event.track_name(self.tracks)),
+               "time": ("I64", "ns", event.time), "length": ("I64", "ns", event.length)}
+        return any(self.compares(how, text, *it) for it in fields or [own.get(name, ("Bool", None, None))])
+
+    def holds(self, text, number, kind, value):
+        strings, stacks = self.data["strings"], self.data["stacks"]
+        if value is None or isinstance(value, dict):
+            return False
+        match kind:
+            case "String" | "Bytes":
+                return text in strings[value].lower()
+            case "StackFrames":
+                return any(text in strings[frame].lower() for frame in stacks[value])
+            case "StringMap":
+                return any(text in strings[it].lower() for it in value)
+            case "List" | "Map":
+                return any(self.holds(text, number, *it) for it in zip(value[::2], value[1::2]))
+            case "Bool":
+                return False
+        return value == text if isinstance(value, str) else number is not None and value == number
+
+    def compares(self, how, text, kind, unit, value):
+        if value is None or isinstance(value, dict) or kind in ("StackFrames", "StringMap", "List", "Map"):
+            return False
+        if not is_number(kind):
+            own = {"Text": value, "Bool": str(value).lower()}.get(kind) or self.data["strings"][value]
+            return how in ("=", "!=") and OPERATORS[how](own.lower(), text)
+        parts = re.fullmatch(r"(-?\d+(?:\.\d+)?(?:e[-+]?\d+)?)(ns|us|ms|s|b|kib|mib|gib)?", text)
+        if not parts:
+            return False
+        if parts[2]:
+            scale = {name.lower(): scale for name, scale in SCALES.items()}[parts[2]]
+            return OPERATORS[how](float(value) * (SCALES[unit] if unit in TIMES else 1), float(parts[1]) * scale)
+        if isinstance(value, str) and how in ("=", "!="):
+            return OPERATORS[how](value, parts[1])
+        return OPERATORS[how](float(value), float(parts[1]))
+
+    # (what is shown of a value)
+
+    def text(self, kind, value):
+        strings = self.data["strings"]
+
+        def listed(items):
+            return ", ".join(items[:200] + [f"and {len(items) - 200:,} more"] * (len(items) > 200))
+
+        def inner(pair):
+            return json.dumps(strings[pair[1]], ensure_ascii=False) if pair[0] == "String" else self.text(*pair)
+
+        if value is None:
+            return "none"
+        if isinstance(value, dict):
+            return f"unknown id {value['unknown']}"
+        match kind:
+            case "String":
+                return strings[value]
+            case "Bytes":
+                return strings[value] or "no bytes"
+            case "Bool":
+                return str(value).lower()
+            case "StringMap":
+                texts = [json.dumps(strings[it], ensure_ascii=False) for it in value]
+                return f"{{{listed(list(map(': '.join, zip(texts[::2], texts[1::2]))))}}}"
+            case "List":
+                return f"[{listed(list(map(inner, zip(value[::2], value[1::2]))))}]"
+            case "Map":
+                items = list(map(inner, zip(value[::2], value[1::2])))
+                return f"{{{listed(list(map(': '.join, zip(items[::2], items[1::2]))))}}}"
+            case "F64" if not isinstance(value, str):
+                # (as JavaScript spells it)
+                return re.sub(r"e-0?(\d+)", r"e-\1", f"{value!r}".removesuffix(".0"))
+        return str(value)
+
+
+def shown(text):
+    escape = r"[\x00-\x1f\x7f-\x9f\u2028\u2029\u202a-\u202e\u2066-\u2069\ufeff]"
+    return re.sub(escape, lambda it: f"\\u{ord(it[0]):04x}", text if len(text) <= 4000 else text[:3999] + "…")
