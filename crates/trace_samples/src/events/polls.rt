@@ -12,15 +12,13 @@ use trace_writer::definition::Definition;
 use trace_writer::event::TraceEvent;
 use trace_writer::fields::TraceFields;
 
-const POLL: Definition = (
-    "Poll",
-    &[
-        ("worker", FieldType::Varint),
-        ("cpu", FieldType::OptionalU32),
-        ("label", FieldType::PooledString),
-    ],
-    &[],
-);
+const POLL_FIELDS: &[(&str, FieldType)] = &[
+    ("worker", FieldType::Varint),
+    ("cpu", FieldType::OptionalU32),
+    ("label", FieldType::PooledString),
+];
+
+const POLL: Definition = ("Poll", POLL_FIELDS, &[]);
 
 /// A poll of a task by a worker, on a core where it is known, of slot 0.
 #[derive(Drop)]
@@ -103,7 +101,7 @@ impl TraceEvent for PollAgain {
     }
 }
 
-const POLL_ANNOTATED: Definition = (POLL.0, POLL.1, &[(1, "unit", "index")]);
+const POLL_ANNOTATED: Definition = ("Poll", POLL_FIELDS, &[(1, "unit", "index")]);
 
 /// The name and the fields of `Poll`, and an annotation.
 #[derive(Drop)]
