@@ -29,6 +29,7 @@ numeral n x b s is test finite plain read =
     ((t : List ℕ) × IsNumeralOf n t × (number s ≡ number t)) (number s ≡ string (special_text n))
     (tested n x b true is test finite) (s, (plain, read ∙ ap Some is), refl)
 
+-- a float that is finite was put as its shortest numeral
 pub numeral_put :
     {E : Type 0} (r : Result (Unit {0}) E) (n : ℕ) (x : Float) (b : Bool) (old new : List Token) →
     x ≡ from_bits binary64 n → b ≡ float_is_finite x → b ≡ true →
@@ -41,6 +42,7 @@ numeral_put (Ok u) n x b old new is test finite put = record {
 }
 numeral_put (Err e) n x b old new is test finite put = tt
 
+-- a float that is no number was put as a string
 pub special_put :
     {E : Type 0} (r : Result (Unit {0}) E) (n : ℕ) (x : Float) (b : Bool) (old new : List Token) →
     x ≡ from_bits binary64 n → b ≡ float_is_finite x → b ≡ false →

@@ -35,6 +35,7 @@ seen_as :
 seen_as p r v x w old new is seen done =
     subst (λ (u : Value). OnOk r (Stands (IsValueJson p (flat_form u)) old new)) (sym (ap ref_view is ∙ seen)) done
 
+-- an integer was put
 pub integer_put :
     {E : Type 0} (p : Pools) (r : Result (Unit {0}) E) (v : FieldValueRef) (z y : ℤ) (old new : List Token) →
     v ≡ refs.I64 z → y ≡ z → OnOk r (new ≡ old ++ token.number (signed_decimal y) ∷ []) →
@@ -44,12 +45,14 @@ integer_put p r v z y old new is same put =
     (one_stands r (IsValueJson p (values.integer z)) (number (signed_decimal y)) old new
     (ap (λ (x : ℤ). number (signed_decimal x)) same) put)
 
+-- a float was put
 pub float_put :
     {E : Type 0} (p : Pools) (r : Result (Unit {0}) E) (v : FieldValueRef) (n : ℕ) (old new : List Token) →
     v ≡ refs.F64 n → OnOk r (Stands (IsValueJson p (values.float n)) old new) →
     OnOk r (Stands (IsValueJson p (flat_form (ref_view v))) old new)
 float_put p r v n old new is put = seen_as p r v (refs.F64 n) (values.float n) old new is (search (rules, the_lemmas)) put
 
+-- a truth value was put
 pub boolean_put :
     {E : Type 0} (p : Pools) (r : Result (Unit {0}) E) (v : FieldValueRef) (b : Bool) (old new : List Token) →
     v ≡ refs.Bool b → OnOk r (new ≡ old ++ token.boolean b ∷ []) →
@@ -58,6 +61,7 @@ boolean_put p r v b old new is put =
     seen_as p r v (refs.Bool b) (values.boolean b) old new is (search (rules, the_lemmas))
     (one_stands r (IsValueJson p (values.boolean b)) (boolean b) old new refl put)
 
+-- a text was put
 pub text_put :
     {E : Type 0} (p : Pools) (r : Result (Unit {0}) E) (v : FieldValueRef) (b : Bor (List ℕ)) (old new : List Token) →
     v ≡ refs.String b → OnOk r (new ≡ old ++ token.string b.now ∷ []) →
@@ -66,6 +70,7 @@ text_put p r v b old new is put =
     seen_as p r v (refs.String b) (values.text b.now) old new is (search (rules, the_lemmas))
     (one_stands r (IsValueJson p (values.text b.now)) (string b.now) old new refl put)
 
+-- bytes were put
 pub bytes_put :
     {E : Type 0} (p : Pools) (r : Result (Unit {0}) E) (v : FieldValueRef) (b : Bor (List ℕ)) (old new : List Token) →
     v ≡ refs.Bytes b → OnOk r (new ≡ old ++ json_tokens (bytes_json b.now)) →
@@ -74,6 +79,7 @@ bytes_put p r v b old new is put =
     seen_as p r v (refs.Bytes b) (values.bytes b.now) old new is (search (rules, the_lemmas))
     (one_stands r (IsValueJson p (values.bytes b.now)) (bytes_json b.now) old new refl put)
 
+-- the text of an id was put, or the id
 pub pooled_text_put :
     {E : Type 0} (p : Pools) (r : Result (Unit {0}) E) (v : FieldValueRef) (id : InternedString)
     (old new : List Token) →
@@ -85,6 +91,7 @@ pooled_text_put p r v id old new is put =
     (one_stands r (IsValueJson p (values.pooled_text id.0)) (pooled_text_json id.0 (finmap.get p.strings id.0)) old new
     refl put)
 
+-- the stack of an id was put, or the id
 pub pooled_stack_put :
     {E : Type 0} (p : Pools) (r : Result (Unit {0}) E) (v : FieldValueRef) (id : InternedStackFrames)
     (old new : List Token) →
@@ -96,6 +103,7 @@ pooled_stack_put p r v id old new is put =
     (one_stands r (IsValueJson p (values.pooled_stack id.0)) (pooled_stack_json id.0 (finmap.get p.stacks id.0)) old new
     refl put)
 
+-- a stack was put
 pub stack_put :
     {E : Type 0} (p : Pools) (r : Result (Unit {0}) E) (v : FieldValueRef) (s : StackFramesRef) (old new : List Token) →
     v ≡ refs.StackFrames s → OnOk r (new ≡ old ++ json_tokens (stack_json (stack_view s))) →
@@ -104,6 +112,7 @@ stack_put p r v s old new is put =
     seen_as p r v (refs.StackFrames s) (values.stack (stack_view s)) old new is (search (rules, the_lemmas))
     (one_stands r (IsValueJson p (values.stack (stack_view s))) (stack_json (stack_view s)) old new refl put)
 
+-- a number was put
 pub number_put :
     {E : Type 0} (p : Pools) (r : Result (Unit {0}) E) (v : FieldValueRef) (n : ℕ) (old new : List Token) →
     v ≡ refs.Varint n → OnOk r (new ≡ old ++ token.number (decimal n) ∷ []) →
@@ -112,6 +121,7 @@ number_put p r v n old new is put =
     seen_as p r v (refs.Varint n) (values.number n) old new is (search (rules, the_lemmas))
     (one_stands r (IsValueJson p (values.number n)) (number (decimal n)) old new refl put)
 
+-- a map of texts was put
 pub texts_put :
     {E : Type 0} (p : Pools) (r : Result (Unit {0}) E) (v : FieldValueRef) (m : StringMapRef) (old new : List Token) →
     v ≡ refs.StringMap m → OnOk r (new ≡ old ++ json_tokens (texts_json (string_map_view m))) →

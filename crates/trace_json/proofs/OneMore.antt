@@ -66,6 +66,7 @@ seen_more {A} seen xs i x lt is =
     ap (list_map seen) (take_more xs i x lt ∙ ap (λ (y : A). take i xs ++ y ∷ []) (sym is))
     ∙ map_push seen (take i xs) x
 
+-- the items so far were put, and the next one
 pub item_stands :
     {A : Type 0} (p : Pools) (seen : A → Value) (xs : List A) (i : ℕ) (x : A) (start old new : List Token) →
     i < length xs → x ≡ get_or xs i x →
@@ -78,6 +79,7 @@ item_stands p seen xs i x start old new lt is s one =
     (λ js are. subst (λ (vs : List Value). AreItemsJson p (values_to_items vs) (js ++ one.json ∷ []))
     (sym (seen_more seen xs i x lt is)) (items_more p (list_map seen (take i xs)) (seen x) js one.json are one.is_so))
 
+-- the pairs so far were put, and the next one
 pub pair_stands_in :
     {A : Type 0} (p : Pools) (seen : A → Value × Value) (xs : List A) (i : ℕ) (x : A) (start old new : List Token) →
     i < length xs → x ≡ get_or xs i x →
@@ -112,6 +114,7 @@ field_stands p names left seen xs i x name start old one new lt is rest named s 
     (λ ms are. subst (λ (us : List Value). AreFieldsJson p names us (ms ++ (name, j) ∷ []))
     (sym (seen_more seen xs i x lt is)) (fields_more p names vs (seen x) ms name j here are v.is_so))
 
+-- what is left after one more
 pub drop_next : (i : ℕ) (xs : List (List ℕ)) → drop 1 (drop i xs) ≡ drop (i + 1) xs
 drop_next i xs = drop-drop 1 i xs
 

@@ -191,5 +191,6 @@ run_shallow (k ∷ ks) g bytes (f ∷ fs) last p h =
     (subst (λ (n : Grammar). All IsShallow (events_of n (pooled p f) fs)) (sym next)
     (run_shallow ks h.2 h.1 fs last (pooled p f) h.6))
 
+-- values of a run are of few levels
 pub run_is_shallow : RunIsShallow
 run_is_shallow = run_shallow

@@ -62,6 +62,7 @@ mapped_put r f xs old one two new a b e =
     list_put r (list_map f xs) old one two new a
     (b ∙ ap (λ (t : List Token). one ++ t) (sym (flat_map-map json_tokens f xs))) e
 
+-- a key and a value were put as a list of two
 pub pair_put :
     {E : Type 0} (r : Result (Unit {0}) E) (key value : Json) (old one two three new : List Token) →
     one ≡ old ++ begin_array ∷ [] → two ≡ one ++ json_tokens key → three ≡ two ++ json_tokens value →
@@ -75,12 +76,14 @@ pair_put r key value old one two three new a b c e =
 
 -- ---- the same of JSON of which something is so
 
+-- while pairs are left, or a thing is put, one stands there
 pub one_stands :
     {E : Type 0} (r : Result (Unit {0}) E) (is : Json → Type 0) (j : Json) (old new : List Token) → is j →
     OnOk r (new ≡ old ++ json_tokens j) → OnOk r (Stands is old new)
 one_stands (Ok u) is j old new so e = record { json = j; is_so = so; tokens = e }
 one_stands (Err x) is j old new so e = tt
 
+-- a list was put from its first bracket to its last
 pub list_stands :
     {E : Type 0} (r : Result (Unit {0}) E) (are : List Json → Type 0) (old one two new : List Token) →
     one ≡ old ++ begin_array ∷ [] → StandAll json_tokens are one two → OnOk r (new ≡ two ++ end_array ∷ []) →
@@ -89,6 +92,7 @@ list_stands r are old one two new a s e =
     one_stands r (λ j. (js : List Json) × are js × (j ≡ list_json js)) (list_json s.all) old new
     (s.all, s.are_so, refl) (list_put r s.all old one two new a s.tokens e)
 
+-- an object was put from its first brace to its last
 pub object_stands :
     {E : Type 0} (r : Result (Unit {0}) E) (are : List (List ℕ × Json) → Type 0) (old one two new : List Token) →
     one ≡ old ++ begin_object ∷ [] → StandAll member_tokens are one two → OnOk r (new ≡ two ++ end_object ∷ []) →
@@ -116,6 +120,7 @@ pub pair_closed :
 pair_closed is_key is_value old one two three new a key value e =
     pair_stands {E = ℕ} (Ok tt) is_key is_value old one two three new a key value e
 
+-- an event was put from its name to its last brace
 pub event_stands :
     {E : Type 0} (r : Result (Unit {0}) E) (is : Json → Type 0) (name : List ℕ) (time : ℕ)
     (old one two new : List Token) →
@@ -144,6 +149,7 @@ put_four (Ok u) a b c d told old one two three new same p q s e =
     four_tokens a b c d old one two three new p q s e ∙ ap (λ (t : Token). old ++ a ∷ b ∷ t ∷ d ∷ []) same
 put_four (Err x) a b c d told old one two three new same p q s e = tt
 
+-- six tokens were put, one after another
 pub put_six :
     {E : Type 0} (r : Result (Unit {0}) E) (a b c d x y : Token) (old one two three four five new : List Token) →
     one ≡ old ++ a ∷ [] → two ≡ one ++ b ∷ [] → three ≡ two ++ c ∷ [] → four ≡ three ++ d ∷ [] →
@@ -154,6 +160,7 @@ put_six (Err z) a b c d x y old one two three four five new p q s t v e = tt
 
 -- ---- things written in a loop
 
+-- where nothing was put all is as before
 pub nothing_put : (start : List Token) → start ≡ start ++ []
 nothing_put start = sym (append-nil start)
 
