@@ -1,4 +1,4 @@
-//! What was written, read at once by both readers, and copied. Frame by frame, and to a sink, it is read by `tools/ample`.
+//! What was written, read at once by both readers, and copied. `tools/ample` has it read one by one, and by a sink.
 
 use crate::tests::ample::borrowed::is_borrowed;
 use crate::tests::calls::{all, decoder_of};
