@@ -14,6 +14,7 @@ mod layouts;
 mod lent;
 mod mixed;
 mod numbers;
+mod pieces;
 mod plain;
 mod pools;
 mod read_values;
