@@ -101,9 +101,12 @@ fn twice(alloc: Global) -> Result<Vec<u8>, Fail> {
 
 /// Cut here into two pieces, the bytes give so many frames.
 fn gives_cut(alloc: Global, bytes: &[u8], cut: usize, count: usize) -> Result<bool, Fail> {
+    let Some((front, rest)) = bytes.split_at_checked(cut) else {
+        return Ok(false);
+    };
     let mut feed = FeedDecoder::new(alloc);
-    let first = feed.feed(&bytes[..cut])?.len();
-    let second = feed.feed(&bytes[cut..])?.len();
+    let first = feed.feed(front)?.len();
+    let second = feed.feed(rest)?.len();
     Ok(first.saturating_add(second) == count && feed.position() == bytes.len())
 }
 
