@@ -12,3 +12,7 @@ mod RawPairs
 mod DumpStatuses
 mod JoinedLists
 mod Depths
+mod PieceLines
+mod PulledLines
+mod PiecesGathered
+mod PiecesSent

@@ -4,4 +4,5 @@ pub mod Holding
 pub mod ResolvedLines
 pub mod Dumps
 pub mod Sent
+pub mod PieceDumps
 pub mod Program

@@ -1,13 +1,15 @@
 //! The program `tracedump` (docs/FORMAT.md, "Dumps"): reads a trace from standard input, and writes the lines of what
 //! it holds to standard output. Programs call `run`, which decides nothing by itself.
 
-ghost use Rattle.std.specs.Prelude.{◌≡◌, ◌≢◌, ◌≤◌};
+ghost use Rattle.std.specs.Prelude.{◌≡◌, ◌≢◌, ◌≤◌, true};
 ghost use Rattle.std.specs.Process.{exit_status};
 ghost use Rattle.trace_values.specs.Sending.{IsSettled};
 ghost use Rattle.trace_lines.specs.Dumps.{failed_status};
+ghost use Rattle.trace_lines.specs.PieceDumps.{DumpsFrontOfBytes};
 ghost use Rattle.trace_lines.specs.Program.{AsksFor, WordsAskFor, resolves, DumpsAll, DumpsFront, message_for};
 
 use crate::dump::{FAILED, dump};
+use crate::pieces::dump_pieces;
 use std::alloc::Global;
 use std::io::{ErrorKind, Read};
 use std::process::ExitCode;
@@ -68,9 +70,10 @@ fn task_of_words(words: &[String]) -> Task
     }
 }
 
-/// Does what is asked for, and answers the status: that of the dump of all that the input has left. `FAILED` where no
-/// dump is asked for, where the input could not be read to its end, where a growth was refused, and where the writer
-/// failed: then nothing was written, or a front of the dump.
+/// Does what is asked for, and answers the status: that of the dump of all that the input has left. The dump of frames
+/// is written as the input is read, that of events once all was read. `FAILED` where no dump is asked for, where the
+/// input could not be read to its end, where a growth was refused, and where the writer failed: then nothing was
+/// written, or a front of the dump.
 pub fn carry_out<R: Read, W: TraceWrite>(
     alloc: Global,
     task: Task,
@@ -79,22 +82,35 @@ pub fn carry_out<R: Read, W: TraceWrite>(
 ) -> u8
     ensures asked { task ≢ Task.Dump → task ≢ Task.Resolve → result ≡ failed_status }
     ensures same_writer { task ≢ Task.Dump → task ≢ Task.Resolve → out.new ≡ out.old }
-    ensures front { result ≡ failed_status
+    ensures front { task ≢ Task.Dump → result ≡ failed_status
         → DumpsFront (resolves task) (R.remaining input.old) (W.told out.old) (W.told out.new) }
+    ensures front_of_bytes { task ≡ Task.Dump → result ≡ failed_status
+        → DumpsFrontOfBytes (R.remaining input.old) (W.told out.old) (W.told out.new) }
     ensures lines { result ≢ failed_status
         → DumpsAll (resolves task) (R.remaining input.old) (W.told out.old) (W.told out.new)
         result }
     ensures settled { result ≢ failed_status → IsSettled (W.told out.new) }
     ensures known { result ≤ failed_status }
 {
-    let resolve = match task {
-        Task::Dump => false,
-        Task::Resolve => true,
-        Task::Usage | Task::Fail => return FAILED,
-    };
+    match task {
+        Task::Dump => dump_pieces(alloc, input, out),
+        Task::Resolve => dump_events(alloc, input, out),
+        Task::Usage | Task::Fail => FAILED,
+    }
+}
+
+// Writes the lines of the events of all that the input has left, resolved, once all was read.
+fn dump_events<R: Read, W: TraceWrite>(alloc: Global, input: &mut R, out: &mut W) -> u8
+    ensures front { result ≡ failed_status
+        → DumpsFront true (R.remaining input.old) (W.told out.old) (W.told out.new) }
+    ensures lines { result ≢ failed_status
+        → DumpsAll true (R.remaining input.old) (W.told out.old) (W.told out.new) result }
+    ensures settled { result ≢ failed_status → IsSettled (W.told out.new) }
+    ensures known { result ≤ failed_status }
+{
     let mut bytes = Vec::new(alloc);
     match input.read_to_end(&mut bytes) {
-        Ok(_) => dump(alloc, &bytes, out, resolve),
+        Ok(_) => dump(alloc, &bytes, out, true),
         Err(_) => FAILED,
     }
 }

@@ -12,6 +12,7 @@ mod frames;
 mod layouts;
 mod lent;
 mod mixed;
+mod pieces;
 mod plain;
 mod read_values;
 mod registry;

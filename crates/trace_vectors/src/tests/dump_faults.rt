@@ -11,7 +11,7 @@ use trace_samples::{Manner, Told};
 use trace_values::leb128::Faults;
 
 /// The lines of one event.
-const LINES: &str =
+pub const LINES: &str =
     "trace version 1\nschema \"Ev\" \"v\":Varint\nevent 256 1000 Varint:42\nend whole\n";
 
 /// The lines of one event, resolved.
@@ -59,7 +59,7 @@ const CUT_EVENT: [u8; 25] = [
 ];
 
 /// Traces, and the status and the lines of their dumps.
-const DUMPS: [(&[u8], u8, &str); 4] = [
+pub const DUMPS: [(&[u8], u8, &str); 4] = [
     (&ONE_EVENT, WHOLE, LINES),
     (&[], NO_HEADER, "no header\n"),
     (

@@ -1,47 +1,49 @@
-use Rattle.std.proofs.Common.{rules, refl, [], inl, arith, le_refl}
+use Rattle.std.proofs.Common.{◌≡◌, ◌∙◌, refl, [], inl, arith, le_refl, subst, sym}
 use Rattle.trace_values.proofs.SendingLemmas.{TookOnly-none}
-use Rattle.trace_lines.specs.Program.{resolves}
-use Rattle.trace_lines.proofs.WordsAndReadings.{all_read, front_read}
+use Rattle.trace_lines.specs.declared.program.Task.{Task}
+use Rattle.trace_lines.specs.declared.program.Task.TheVariants.{Dump, Resolve}
+use Rattle.trace_lines.specs.Program.{resolves, DumpsAll, DumpsFront}
+use Rattle.trace_lines.proofs.PiecesSent.{nothing_dumped}
 use Rattle.trace_lines.proofs.program.carry_out.Goals as goal
-use Rattle.trace_lines.proofs.program.carry_out.Goals.{in-Dump, in-Resolve}
 
 pub returns-in-Usage : goal.returns-in-Usage
 returns-in-Usage g c = record {
   asked = λ no_dump no_resolve. refl;
   same_writer = λ no_dump no_resolve. refl;
-  front = λ failed bytes e. ([], inl refl, [], omega arith, TookOnly-none _);
+  front = λ no_dump failed bytes e. ([], inl refl, [], omega arith, TookOnly-none _);
+  front_of_bytes = λ dump failed. nothing_dumped _ _;
   lines = λ fine. absurd (fine refl);
   settled = λ fine. absurd (fine refl);
   known = le_refl _;
 }
 
-pub returns-in-Ok : goal.returns-in-Ok
-returns-in-Ok g c =
-    let held = c.deref.result.now in
-    let resolve = c.match-task.resolve in
-    record {
-      asked = λ no_dump no_resolve.
-          elim c.match-task.branch
-          [ in-Dump w ↦ absurd (no_dump w.in-Dump.is) | in-Resolve w ↦ absurd (no_resolve w.in-Resolve.is) ];
-      same_writer = λ no_dump no_resolve.
-          elim c.match-task.branch
-          [ in-Dump w ↦ absurd (no_dump w.in-Dump.is) | in-Resolve w ↦ absurd (no_resolve w.in-Resolve.is) ];
-      front = λ failed bytes told.
-          front_read resolve (resolves c.args.task) held bytes _ _ (search rules) (search rules)
-          (c.dump.ensures.front failed);
-      lines = λ fine bytes told.
-          all_read resolve (resolves c.args.task) held bytes _ _ _ (search rules) (search rules)
-          (c.dump.ensures.lines fine);
-      settled = λ fine. c.dump.ensures.settled fine;
-      known = c.dump.ensures.known;
-    }
+pub returns-in-Dump : goal.returns-in-Dump
+returns-in-Dump g c = record {
+  asked = λ no_dump no_resolve. absurd (no_dump c.in-Dump.is);
+  same_writer = λ no_dump no_resolve. absurd (no_dump c.in-Dump.is);
+  front = λ no_dump failed. absurd (no_dump c.in-Dump.is);
+  front_of_bytes = λ dump failed. c.dump_pieces.ensures.front failed;
+  lines = λ fine.
+      subst (λ (t : Task). DumpsAll (resolves t) (g.R.Read.remaining c.args.input.now)
+      (g.W.TraceWrite.told c.args.out.now) (g.W.TraceWrite.told c.dump_pieces.new.out) c.dump_pieces.result)
+      (sym c.in-Dump.is) (c.dump_pieces.ensures.lines fine);
+  settled = λ fine. c.dump_pieces.ensures.settled fine;
+  known = c.dump_pieces.ensures.known;
+}
 
-pub returns : goal.returns
-returns g c = record {
-  asked = λ no_dump no_resolve. refl;
-  same_writer = λ no_dump no_resolve. refl;
-  front = λ failed bytes e. ([], inl refl, [], omega arith, TookOnly-none _);
-  lines = λ fine. absurd (fine refl);
-  settled = λ fine. absurd (fine refl);
-  known = le_refl _;
+pub returns-in-Resolve : goal.returns-in-Resolve
+returns-in-Resolve g c = record {
+  asked = λ no_dump no_resolve. absurd (no_resolve c.in-Resolve.is);
+  same_writer = λ no_dump no_resolve. absurd (no_resolve c.in-Resolve.is);
+  front = λ no_dump failed.
+      subst (λ (t : Task). DumpsFront (resolves t) (g.R.Read.remaining c.args.input.now)
+      (g.W.TraceWrite.told c.args.out.now) (g.W.TraceWrite.told c.dump_events.new.out))
+      (sym c.in-Resolve.is) (c.dump_events.ensures.front failed);
+  front_of_bytes = λ dump failed. absurd (let x : Dump ≡ Resolve = sym dump ∙ c.in-Resolve.is in cc);
+  lines = λ fine.
+      subst (λ (t : Task). DumpsAll (resolves t) (g.R.Read.remaining c.args.input.now)
+      (g.W.TraceWrite.told c.args.out.now) (g.W.TraceWrite.told c.dump_events.new.out) c.dump_events.result)
+      (sym c.in-Resolve.is) (c.dump_events.ensures.lines fine);
+  settled = λ fine. c.dump_events.ensures.settled fine;
+  known = c.dump_events.ensures.known;
 }

@@ -1,0 +1,240 @@
+//! A dump of an input that is read in pieces.
+
+ghost use Rattle.std.specs.Prelude.{◌≡◌, ◌≢◌, ◌≤◌, [], false, IfOk, OnOk, string_bytes};
+ghost use Rattle.trace_values.specs.Sending.{IsSettled};
+ghost use Rattle.trace_lines.specs.Dumps.{failed_status};
+ghost use Rattle.trace_lines.specs.PieceDumps.{DumpsFrontOfBytes, IsFed, IsWaiting, AreNextLines, GathersPiece};
+ghost use Rattle.dial9_trace_format.specs.DecodedFrames.{item_of, next_as};
+ghost use Rattle.trace_lines.specs.PieceDumps.{IsLeft, AppendsEnd, AppendsFirst, PulledLines, SendsPiece, SendsRead};
+ghost use Rattle.trace_lines.specs.Sent.{Sends};
+ghost use Rattle.trace_lines.specs.Program.{DumpsAll};
+
+use crate::dump::{CONFLICT, DumpError, FAILED, NO_HEADER, STOPPED, WHOLE};
+use crate::lines::{
+    push_conflict_line, push_first_line, push_frame_line, push_no_header_line, push_stopped_line,
+    push_whole_line,
+};
+use dial9_trace_format::decoder::{DecodeError, DecodeErrorKind, DecodedFrame, FeedDecoder};
+use std::alloc::{AllocError, Global};
+use std::io::{ErrorKind, Read};
+use trace_values::leb128::{TraceWrite, send_all};
+
+// So many bytes at most are read at once.
+const PIECE: usize = 4096;
+
+// How many times an input is read at most. The check has to see that reading ends.
+const MOST_READS: u64 = u64::MAX;
+
+// What comes next of the lines.
+#[derive(Clone, Copy)]
+enum Next {
+    // That of a frame.
+    Line,
+    // None, as long as no more is read.
+    Wait,
+    // The last, with the status.
+    End(u8),
+}
+
+/// Writes the lines of all that a reader has left, as `dump` does those of the same bytes, and answers the status
+/// (docs/FORMAT.md, "Dumps"). It reads at most 4,096 bytes at once, and sends the lines of all frames that are whole
+/// then before it reads more. After a conflict, and where no header stands, it reads no more. `FAILED` comes only where
+/// a growth was refused, where the input could not be read to its end, and where the writer failed: then a front of the
+/// lines was written, with no fault or one, and nothing was handed on or tried again.
+pub fn dump_pieces<R: Read, W: TraceWrite>(alloc: Global, input: &mut R, out: &mut W) -> u8
+    ensures lines { result ≢ failed_status
+        → DumpsAll false (R.remaining input.old) (W.told out.old) (W.told out.new) result }
+    ensures settled { result ≢ failed_status → IsSettled (W.told out.new) }
+    ensures known { result ≤ failed_status }
+    ensures front { result ≡ failed_status
+        → DumpsFrontOfBytes (R.remaining input.old) (W.told out.old) (W.told out.new) }
+{
+    match send_pieces(alloc, input, out) {
+        Ok(status) => match out.settle() {
+            Ok(()) => status,
+            Err(_) => FAILED,
+        },
+        Err(_) => FAILED,
+    }
+}
+
+// Sends all lines.
+fn send_pieces<R: Read, W: TraceWrite>(
+    alloc: Global,
+    input: &mut R,
+    out: &mut W,
+) -> Result<u8, DumpError>
+    ensures { SendsRead (W.told out.old) (W.told out.new) (R.remaining input.old) result }
+{
+    let mut decoder = FeedDecoder::new(alloc);
+    let mut piece = [0; PIECE];
+    'reads: for _ in 0..MOST_READS {
+        match input.read(&mut piece) {
+            Ok(0) => return send_last(alloc, &decoder, out),
+            Ok(count) => {
+                if let Some(status) = send_piece(alloc, &mut decoder, &piece[..count], out)? {
+                    return Ok(status);
+                }
+            }
+            Err(error) => {
+                if error.kind() != ErrorKind::Interrupted {
+                    return Err(DumpError);
+                }
+            }
+        }
+    }
+    Err(DumpError)
+}
+
+// Sends the last line where the input has ended.
+fn send_last<W: TraceWrite>(
+    alloc: Global,
+    decoder: &FeedDecoder,
+    out: &mut W,
+) -> Result<u8, DumpError>
+    requires { IsWaiting decoder.now }
+    ensures { Sends (W.told out.old) (W.told out.new) (IsLeft decoder.now []) result }
+{
+    let mut line = String::new(alloc);
+    let status = push_last_line(&mut line, decoder)?;
+    send_all(out, line.as_bytes())?;
+    Ok(status)
+}
+
+// Appends the last line where the input has ended, and answers the status.
+fn push_last_line(line: &mut String, decoder: &FeedDecoder) -> Result<u8, AllocError>
+    requires waiting { IsWaiting decoder.now }
+    requires empty { string_bytes line.old ≡ [] }
+    ensures { IfOk result (λ status. IsLeft decoder.now [] status (string_bytes line.new)) }
+{
+    let Some(_) = decoder.version() else {
+        push_no_header_line(line)?;
+        return Ok(NO_HEADER);
+    };
+    let place = decoder.position();
+    if place == decoder.fed_len() {
+        push_whole_line(line)?;
+        return Ok(WHOLE);
+    }
+    push_stopped_line(line, place)?;
+    Ok(STOPPED)
+}
+
+// Sends the lines of all frames that are whole with the piece. Answers the status where they are the last.
+fn send_piece<W: TraceWrite>(
+    alloc: Global,
+    decoder: &mut FeedDecoder,
+    piece: &[u8],
+    out: &mut W,
+) -> Result<Option<u8>, DumpError>
+    requires { IsWaiting decoder.old }
+    ensures { SendsPiece (W.told out.old) (W.told out.new) decoder.old piece.now decoder.new result }
+{
+    let mut held = String::new(alloc);
+    let gathered = gather_piece(alloc, decoder, piece, &mut held);
+    send_all(out, held.as_bytes())?;
+    Ok(gathered?)
+}
+
+// Appends the lines of all frames that are whole with the piece. Answers the status where they are the last.
+fn gather_piece(
+    alloc: Global,
+    decoder: &mut FeedDecoder,
+    piece: &[u8],
+    held: &mut String,
+) -> Result<Option<u8>, AllocError>
+    requires waiting { IsWaiting decoder.old }
+    requires empty { string_bytes held.old ≡ [] }
+    ensures { GathersPiece decoder.old piece.now decoder.new (string_bytes held.new) result }
+{
+    let Ok(()) = decoder.push(piece) else {
+        return Err(AllocError);
+    };
+    gather_kept(alloc, decoder, held)
+}
+
+// Appends the lines of all frames that are whole. Answers the status where they are the last.
+fn gather_kept(
+    alloc: Global,
+    decoder: &mut FeedDecoder,
+    held: &mut String,
+) -> Result<Option<u8>, AllocError>
+    requires fed { IsFed decoder.old }
+    requires empty { string_bytes held.old ≡ [] }
+    ensures { GathersPiece decoder.old [] decoder.new (string_bytes held.new) result }
+{
+    let mut line = String::new(alloc);
+    'lines: loop {
+        line.clear();
+        let next = push_next_lines(&mut line, decoder)?;
+        held.push_str(&line)?;
+        match next {
+            Next::Line => {}
+            Next::Wait => return Ok(None),
+            Next::End(status) => return Ok(Some(status)),
+        }
+    }
+}
+
+// Appends the line of the next frame, if one is whole, and before it the first line, where the header was read with it;
+// or the last line.
+fn push_next_lines(line: &mut String, decoder: &mut FeedDecoder) -> Result<Next, AllocError>
+    requires fed { IsFed decoder.old }
+    requires empty { string_bytes line.old ≡ [] }
+    ensures { IfOk result (AreNextLines decoder.old decoder.new (string_bytes line.new)) }
+{
+    let before = decoder.version();
+    let frame = decoder.next_frame();
+    push_first_part(line, before, decoder.version())?;
+    push_pulled_line(line, frame)
+}
+
+// Appends the first line where the version was unknown, and is known now.
+fn push_first_part(
+    line: &mut String,
+    before: Option<u8>,
+    after: Option<u8>,
+) -> Result<(), AllocError>
+    ensures { OnOk result (AppendsFirst before after (string_bytes line.old) (string_bytes line.new)) }
+{
+    match (before, after) {
+        (None, Some(version)) => push_first_line(line, version),
+        _ => Ok(()),
+    }
+}
+
+// Appends the line of the frame, or the last line.
+fn push_pulled_line(
+    line: &mut String,
+    frame: Result<Option<DecodedFrame>, DecodeError>,
+) -> Result<Next, AllocError>
+    ensures { IfOk result
+        (PulledLines (next_as item_of frame) (string_bytes line.old) (string_bytes line.new)) }
+{
+    match frame {
+        Ok(Some(frame)) => {
+            push_frame_line(line, &frame)?;
+            Ok(Next::Line)
+        }
+        Ok(None) => Ok(Next::Wait),
+        Err(error) => Ok(Next::End(push_error_line(line, error)?)),
+    }
+}
+
+// Appends the last line where the decoder told an error, and answers the status.
+fn push_error_line(line: &mut String, error: DecodeError) -> Result<u8, AllocError>
+    ensures { IfOk result (λ status. AppendsEnd error.pos error.kind status (string_bytes line.old)
+        (string_bytes line.new)) }
+{
+    match error.kind {
+        DecodeErrorKind::Conflict(id) => {
+            push_conflict_line(line, error.pos, id)?;
+            Ok(CONFLICT)
+        }
+        DecodeErrorKind::NoHeader => {
+            push_no_header_line(line)?;
+            Ok(NO_HEADER)
+        }
+        _ => Err(AllocError),
+    }
+}
