@@ -146,6 +146,7 @@ left_by s v more status text e h = subst (λ (o : Option ℕ). IsLeftBy o s more
 pub nothing_comes : (s : FeedState) → LinesCome s [] s []
 nothing_comes s more status rest d = d
 
+-- lines that came of one piece, and then of another
 pub come_further :
     (a b c : FeedState) (xs ys lines more_lines : List ℕ) → LinesCome a xs b lines → LinesCome b ys c more_lines →
     LinesCome a (xs ++ ys) c (lines ++ more_lines)
@@ -154,6 +155,7 @@ come_further a b c xs ys lines more_lines x y more status rest d =
     (subst (λ (t : List ℕ). IsLeft a t status (lines ++ (more_lines ++ rest))) (sym (append_assoc xs ys more))
     (x (ys ++ more) status (more_lines ++ rest) (y more status rest d)))
 
+-- lines that came, and then the last ones
 pub end_further :
     (a b : FeedState) (xs ys lines last : List ℕ) (status : ℕ) → LinesCome a xs b lines → LinesEnd b ys status last →
     LinesEnd a (xs ++ ys) status (lines ++ last)
@@ -327,9 +329,11 @@ left_of s more None e fits = by_start (starts (s.kept ++ more) fits)
           (inl (record { no_header = none; status_is = refl; text_is = refl }));
     }
 
+-- what is left of a waiting decoder's trace has a dump
 pub left_exists : (s : FeedState) (more : List ℕ) → AreBytes (s.kept ++ more) → HasLeft s more
 left_exists s more fits = left_of s more s.version refl fits
 
+-- two lists of bytes joined are bytes
 pub both_fit : (a b : List ℕ) → AreBytes a → AreBytes b → AreBytes (a ++ b)
 both_fit [] b x y i = y i
 both_fit (n ∷ a) b x y zero = x 0
@@ -337,6 +341,7 @@ both_fit (n ∷ a) b x y (suc i) = both_fit a b (λ j. x (suc j)) y i
 
 -- ---- a decoder that was fed nothing
 
+-- a decoder that was fed nothing waits
 pub new_waits : (s : FeedState) → s ≡ new_feed → IsWaiting s
 new_waits s is = subst IsWaiting (sym is) (record {
   fed = record {
@@ -361,6 +366,7 @@ nothing_left : (xs : List ℕ) → length xs ≡ 0 → xs ≡ []
 nothing_left [] e = refl
 nothing_left (x ∷ xs) e = absurd (omega (arith, e))
 
+-- the last line where all bytes were read
 pub last_whole :
     (s : FeedState) (v : ℕ) (line_is text : List ℕ) → IsWaiting s → s.version ≡ Some v → s.position ≡ s.fed_len →
     line_is ≡ text ++ line whole_line → text ≡ [] → IsLeft s [] 0 line_is
@@ -368,6 +374,7 @@ last_whole s v line_is text w known e is none =
     let bare : s.kept ≡ [] = nothing_left s.kept (omega (arith, w.fed.counted, e)) in
     subst (IsLeft s [] 0) (sym (is ∙ ap (λ (x : List ℕ). x ++ line whole_line) none)) (ends_whole s v known bare)
 
+-- the last line where bytes are left
 pub last_stopped :
     (s : FeedState) (v place : ℕ) (line_is text : List ℕ) → IsWaiting s → s.version ≡ Some v → place ≡ s.position →
     s.position ≢ s.fed_len → line_is ≡ text ++ line (stopped_line place) → text ≡ [] → IsLeft s [] 2 line_is

@@ -30,6 +30,7 @@ left_pushed s (Some v) piece more status text d =
 pub push_comes : (s : FeedState) (piece : List ℕ) → LinesCome s piece (pushed s piece) []
 push_comes s piece more status rest d = left_pushed s s.version piece more status rest d
 
+-- a piece more is kept
 pub pushed_fed : (old new : FeedState) (piece : List ℕ) → IsFed old → AreBytes piece → new ≡ pushed old piece
     → IsFed new
 pushed_fed old new piece f fits is = subst IsFed (sym is) (record {
@@ -82,6 +83,7 @@ pub record Gathered (old now : FeedState) (held : List ℕ) : Type 0 where
   pub come : LinesCome old [] now held
   pub fed : IsFed now
 
+-- before the first frame no lines came
 pub none_yet : (old : FeedState) (held : List ℕ) → IsFed old → held ≡ [] → Gathered old old held
 none_yet old held f none = record { come = subst (LinesCome old [] old) (sym none) (λ more status rest d. d); fed = f }
 

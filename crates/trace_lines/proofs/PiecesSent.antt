@@ -53,6 +53,7 @@ at_end (Some xs) others e h = (let x : others ≡ xs = cc in x) ∙ h
 
 -- ---- what was sent so far
 
+-- lines of what was read so far went to a writer
 pub record SentSoFar (a b : Account) (before after : Option (List ℕ)) (s : FeedState) : Type 0 where
   pub read : List ℕ
   pub sent : List ℕ
@@ -61,6 +62,7 @@ pub record SentSoFar (a b : Account) (before after : Option (List ℕ)) (s : Fee
   pub come : LinesCome new_feed read s sent
   pub waiting : IsWaiting s
 
+-- before the first piece nothing was sent
 pub nothing_sent : (a : Account) (before : Option (List ℕ)) (s : FeedState) → s ≡ new_feed → IsWaiting s
     → SentSoFar a a before before s
 nothing_sent a before s is w = record {
@@ -257,6 +259,7 @@ piece_goes_on {s = s} c t last piece end is h used (lines, all, took) =
 
 -- ---- and then it is settled
 
+-- a dump that was sent and settled
 pub all_dumped :
     {a b c : Account} {before : Option (List ℕ)} (status : ℕ) →
     (text : List ℕ) × IsDumpRead before status text × TookOnly a b text [] → Took b c [] [] →
@@ -268,11 +271,13 @@ all_dumped {a} {b} {c} status (text, is, took) settled bytes e = (
       (Took-join a b c text [] [] [] took.took settled),
 )
 
+-- a dump that was sent ends with a status of dumps
 pub status_known :
     {a b : Account} {before : Option (List ℕ)} (status : ℕ) →
     (text : List ℕ) × IsDumpRead before status text × TookOnly a b text [] → status < failed_status
 status_known status (text, is, took) = dump_status (Frames Owned) is.read status text is.of_read
 
+-- a dump that was sent to a writer that failed to settle
 pub dumped_unsettled :
     {a b c : Account} {kind : ErrorKind} {before : Option (List ℕ)} (status : ℕ) →
     (text : List ℕ) × IsDumpRead before status text × TookOnly a b text [] → TookOnly b c [] (kind ∷ []) →

@@ -270,6 +270,7 @@ first_as o p a b old new e f none h =
     subst (λ (x : Option ℕ). AppendsFirst x b [] new) e
     (subst (λ (x : Option ℕ). AppendsFirst o x [] new) f (subst (λ (x : List ℕ). AppendsFirst o a x new) none h))
 
+-- the next frame's lines, where no growth was refused
 pub next_ok :
     {E : Type 0} (s new : FeedState) (frame : Result (Option Item) DecodeError) (before text : List ℕ)
     (r : Result Next E) → IsFed s → Pulls s new frame → FirstPart s.version new.version before →
