@@ -18,6 +18,7 @@ pub each_below : {V : Type 0} (depth : V → ℕ) (vs : List V) (n : ℕ) → mo
 each_below depth vs n lt =
     (lower 0 (most depth vs) n (omega arith) lt, λ k d here. lower _ (most depth vs) n (at_most depth vs k d here) lt)
 
+-- where all are below a number the greatest is
 pub most_below : {V : Type 0} (depth : V → ℕ) (vs : List V) (n : ℕ) → AreBelow depth vs n → most depth vs < n
 most_below depth [] n all = all.0
 most_below depth (v ∷ vs) n all =
@@ -25,6 +26,7 @@ most_below depth (v ∷ vs) n all =
     let others : most depth vs < n = most_below depth vs n (all.0, λ k d here. all.1 (suc k) d (omega arith)) in
     omega arith
 
+-- where all keys and values are below a number the greatest is
 pub most_pair_below :
     {V : Type 0} (depth : V → ℕ) (ps : List (V × V)) (n : ℕ) → AreBelow (λ p. depth p.0) ps n
     × AreBelow (λ p. depth p.1) ps n →
@@ -42,6 +44,7 @@ most_pair_below {V} depth (p ∷ ps) n all =
 
 -- ---- an element of a list
 
+-- an element is no deeper than its list
 pub item_in :
     {V : Type 0} (depth : V → ℕ) (vs : List V) (i : ℕ) (v : V) → i < length vs → v ≡ get_or vs i v →
     depth v ≤ most depth vs
@@ -53,11 +56,13 @@ first_of a b m le = omega (arith, le)
 second_of : (a b m : ℕ) → max a (max b 0) ≤ m → b ≤ m
 second_of a b m le = omega (arith, le)
 
+-- a key is no deeper than its pairs
 pub key_in :
     {V : Type 0} (depth : V → ℕ) (ps : List (V × V)) (i : ℕ) (p : V × V) → i < length ps → p ≡ get_or ps i p →
     depth p.0 ≤ most (pair_depth depth) ps
 key_in depth ps i p lt at = first_of (depth p.0) (depth p.1) _ (item_in (pair_depth depth) ps i p lt at)
 
+-- a value is no deeper than its pairs
 pub value_in :
     {V : Type 0} (depth : V → ℕ) (ps : List (V × V)) (i : ℕ) (p : V × V) → i < length ps → p ≡ get_or ps i p →
     depth p.1 ≤ most (pair_depth depth) ps

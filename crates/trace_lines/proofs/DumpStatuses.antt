@@ -13,6 +13,7 @@ end_status k size last rest Whole status text e = let s : status ≡ 0 = e.0 in 
 end_status k size last rest Stopped status text e = let s : status ≡ 2 = e.0 in omega arith
 end_status k size last rest Conflict status text e = let s : status ≡ 3 = e.4 in omega arith
 
+-- the status of a dump is not that of a failure
 pub dump_status :
     (form : DumpForm) (input : List ℕ) (status : ℕ) (text : List ℕ) → IsDumpAs form input status text →
     status < failed_status

@@ -26,6 +26,7 @@ use Rattle.trace_lines.specs.Sent.{IsGoing, IsOnlyLine, AreStreamLines, IsRestOf
 use Rattle.trace_lines.specs.Sent.{IsNextLine}
 use Rattle.trace_lines.proofs.DumpsGoOn.{dump_after, dump_ends, dump_exists}
 
+-- the lines of frames, and then the rest of the dump, are the rest of the dump before them
 pub rest_after :
     (form : DumpForm) (old new : DecoderState) (frames : List Frame) (status : ℕ) (text : List ℕ) →
     Goes (kind_of_form form) old new frames → IsRestOfDump form new status text →
@@ -120,6 +121,7 @@ fails_here form mid new (failures.Conflict id) status text inside c is t =
 fails_here form mid new failures.OutOfMemory status text inside c is t =
     absurd (subst (λ (x : DecodeError). TellsError new x.pos x.kind status text) is t)
 
+-- where the next frame fails the rest is the line of the error
 pub ends_by_error :
     (reader : Reader) (old new : DecoderState) (e : DecodeError) (status : ℕ) (text : List ℕ) →
     old.position ≤ length old.input → NextFrame (kind_of reader) old new (Err e) →
@@ -139,6 +141,7 @@ item_next reader old new shown text n is =
     let (frames, goes, one) = next_goes (kind_of reader) old new shown n in
     (frames, shown, goes, one, is)
 
+-- a frame that is shown is the next line
 pub next_item :
     {D : Type 0} {x : Option D} {d : D} {before text : List ℕ} (view : D → Item) (reader : Reader)
     (old new : DecoderState) → x ≡ Some d → NextFrame (kind_of reader) old new (next_as view (Ok x)) → before ≡ [] →
@@ -148,12 +151,14 @@ next_item {D = D} {d = d} {text = text} view reader old new is n none t =
     (subst (λ (z : Option D). NextFrame (kind_of reader) old new (next_as view (Ok z))) is n)
     (t ∙ ap (λ (b : List ℕ). b ++ line (item_line (view d))) none)
 
+-- after a line fewer bytes are left
 pub next_shorter :
     (reader : Reader) (old new : DecoderState) (text : List ℕ) → IsNextLine reader old new text None →
     length (rest_of new) < length (rest_of old)
 next_shorter reader old new text (frames, shown, goes, one, is) =
     item_shorter (kind_of reader) old new frames shown goes one
 
+-- a decoder that gave a line goes on
 pub next_going :
     (reader : Reader) (old new : DecoderState) (text : List ℕ) → IsNextLine reader old new text None → IsGoing old →
     IsGoing new
@@ -165,6 +170,7 @@ next_going reader old new text (frames, shown, goes, one, is) going = record {
   fits = AreBytes-right goes.core.here (rest_of new) (subst AreBytes goes.core.parts going.fits);
 }
 
+-- a line, and then the rest of the dump, are the rest of the dump before it
 pub next_goes_on :
     (reader : Reader) (old new : DecoderState) (text : List ℕ) → IsNextLine reader old new text None →
     (status : ℕ) (rest : List ℕ) → IsRestOfDump (Frames reader) new status rest →
@@ -177,12 +183,14 @@ next_goes_on reader old new text (frames, shown, goes, one, is) status rest d =
 
 -- ---- the first line
 
+-- the line of the version is the first line
 pub first_line_is :
     (text before : List ℕ) (version same : ℕ) → text ≡ before ++ line (first_line version) → before ≡ [] →
     version ≡ same → text ≡ line (first_line same)
 first_line_is text before version same t b v =
     t ∙ ap (λ (x : List ℕ). x ++ line (first_line version)) b ∙ ap (λ (n : ℕ). line (first_line n)) v
 
+-- a stream has lines
 pub stream_exists :
     (form : DumpForm) (r : DecoderState) → AreBytes (rest_of r) →
     (status : ℕ) × (text : List ℕ) × AreStreamLines form r status (line (first_line r.version) ++ text)
@@ -201,11 +209,13 @@ new_goes input r header is fits =
     } in
     subst IsGoing (sym is) going
 
+-- a dump of bytes without a header is the one line that says so
 pub no_dump :
     (form : DumpForm) (input : List ℕ) → IsHeadless input → (status : ℕ) (text : List ℕ) → IsOnlyLine status text →
     IsDumpAs form input status text
 no_dump form input none status text (s, t) = inl (record { no_header = none; status_is = s; text_is = t })
 
+-- the lines of a stream are the dump of its bytes
 pub stream_dump :
     (form : DumpForm) (input : List ℕ) (r : DecoderState) → StartsWith input r.version →
     r ≡ new_decoder input r.version → (status : ℕ) (text : List ℕ) → AreStreamLines form r status text →

@@ -102,6 +102,7 @@ end_exists k size last rest Conflict e =
     let b : Begins k last rest (Schema c.0 c.1) e.1 = subst (λ (f : Frame). Begins k last rest f e.1) c.2 e.2 in
     record { status = 3; text = conflict_line (size - length e.1) c.0; is = (c.0, c.1, e.1, b, refl, refl) }
 
+-- from each place there is a dump
 pub dump_exists :
     (form : DumpForm) (g : Grammar) (p : Pools) (size : ℕ) (bytes : List ℕ) → AreBytes bytes →
     HasDump form g p size bytes

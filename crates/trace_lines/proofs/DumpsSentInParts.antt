@@ -19,6 +19,7 @@ pub record Sent (a b : Account) (dump next : ℕ → List ℕ → Type 0) : Type
 pub nothing_sent : (a : Account) (dump : ℕ → List ℕ → Type 0) → Sent a a dump dump
 nothing_sent a dump = record { text = []; took = TookOnly-none a; goes_on = λ status rest d. d }
 
+-- one part more of a dump is sent
 pub more_sent :
     {a b c : Account} {dump next : ℕ → List ℕ → Type 0} {line : List ℕ} (later : ℕ → List ℕ → Type 0) →
     Sent a b dump next → TookOnly b c line [] →
@@ -30,6 +31,7 @@ more_sent {a} {b} {c} {dump} {line = line} later s h k = record {
       subst (dump status) (sym (append_assoc s.text line rest)) (s.goes_on status (line ++ rest) (k status rest d));
 }
 
+-- the last part of a dump is sent
 pub all_sent :
     {E : Type 0} {a b : Account} {dump next : ℕ → List ℕ → Type 0} (c : Account) (r : Result ℕ E) →
     Sent a b dump next → Sends b c next r → Sends a c dump r
@@ -57,6 +59,7 @@ sent_in_part {kind = kind} next (Err e) n status line rest i d h =
     ∙ append_assoc (take n line) (drop n line) rest in
     (take n line, (status, drop n line ++ rest, subst (next status) whole d), kind ∷ [], omega arith, h)
 
+-- where nothing was sent a dump begins
 pub sent_nothing :
     {E : Type 0} (b : Account) (next : ℕ → List ℕ → Type 0) (r : Result ℕ E) (status : ℕ) (text : List ℕ) → IsErr r →
     next status text → Sends b b next r

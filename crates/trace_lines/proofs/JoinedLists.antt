@@ -18,7 +18,7 @@ joined_push shown [] x = append-nil (shown x)
 joined_push shown (first ∷ xs) x =
     rw (comma_later xs) (sym (flat_map_more (λ y. codes "," ++ shown y) (shown first) xs x))
 
--- the same where the elements are those before an index
+-- one element more is joined to those before an index
 pub joined_more :
     {A : Type 0} {now comma new : List ℕ} (shown : A → List ℕ) (old : List ℕ) (xs : List A) (i : ℕ) (x : A) →
     i < length xs → x ≡ get_or xs i x → now ≡ old ++ join_by shown (codes ",") (take i xs) →

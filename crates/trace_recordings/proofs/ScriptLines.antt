@@ -18,6 +18,7 @@ use Rattle.trace_recordings.specs.Scripts.{Says, SayEach, lines_of, IsScript, Is
 use Rattle.trace_recordings.specs.Scripts.{SaysNoWord, is_silent}
 use Rattle.trace_recordings.specs.Tallies.{counted_up}
 
+-- numbers that differ fail the test for equality
 pub not_equal : (x y : ℕ) → (x ≡ y → ⊥) → (x == y) ≡ false
 not_equal x y h = grind (arith, nat_tests)
 

@@ -80,6 +80,7 @@ first_missing {calls} {i} {line} {call} word stands had missing w =
       word_is = w;
     }
 
+-- a call of a type that is not had leaves the script out
 pub left_out_at :
     {calls : List ScriptCall} {i line : ℕ} {call : ScriptCall} (e : PlayError) → StandsAt calls i line call →
     AllByRecursion IsHad (take i calls) → MissesAt line call e → LeavesOut calls e
@@ -188,6 +189,7 @@ lacks_header p line call (plays.Headless other) is r = (r.0, subst (ResumesHeadl
 lacks_header p line call (plays.Encoder error) is r = absurd r
 lacks_header p line call plays.Memory is r = tt
 
+-- an error of the player itself refuses the call
 pub no_memory_in :
     {A : Type 0} (r : Result A PlayError) (p : Playing) (line : ℕ) (call : ScriptCall) → IfErr r IsOfPlayer →
     IfErr r (RefusesCall p line call)

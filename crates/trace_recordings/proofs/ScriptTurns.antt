@@ -80,6 +80,7 @@ becomes trace last (Some f) (Err e) read is resumed failed refused =
     let why : e ≡ errors.Failed = cc in
     subst (RefusesResumption trace) (sym why) (last, read, has_failed)
 
+-- what a resumption does is its answer
 pub resumption_answers :
     (trace : List ℕ) (first last : DecoderState) (shown : List Item)
     (r : Result (EncoderView (Vec ℕ Global)) EncodeError) → IsOpened trace first →

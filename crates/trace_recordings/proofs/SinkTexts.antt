@@ -199,6 +199,7 @@ pub record IsNew (r : DecoderState) : Type 0 where
   pub inside : r.position ≤ length r.input
   pub fits : AreBytes (rest_of r)
 
+-- what a sink is given of a stream is what is told
 pub stream_sink :
     {r : DecoderState} {result : Result (Unit {0}) DecodeError} {told : List ℕ} (new : DecoderState)
     (s t : EventCounter) → IsNew r → s.events ≡ 0 →

@@ -47,12 +47,7 @@ abbrev pub poll_again_entry : Entry
 poll_again_entry = bare_schema (codes "Poll") (field (codes "worker") types.Varint ∷ field (codes "core") types.U8 ∷ [])
 
 abbrev pub poll_annotated_entry : Entry
-poll_annotated_entry = record {
-  name = codes "Poll";
-  fields = field (codes "worker") types.Varint ∷ field (codes "cpu") types.OptionalU32
-      ∷ field (codes "label") types.PooledString ∷ [];
-  annotations = annotation 1 (codes "unit") (codes "index") ∷ [];
-}
+poll_annotated_entry = record poll_entry { annotations = annotation 1 (codes "unit") (codes "index") ∷ [] }
 
 abbrev pub texts_entry : Entry
 texts_entry = bare_schema (codes "Texts") (field (codes "text") types.String ∷ field (codes "blob") types.Bytes

@@ -15,7 +15,7 @@ pub use fields::{Stacks, Texts};
 pub use lists::Dynamic;
 pub use names::{AlsoByName, ByName, Nameless};
 pub use numbers::Numbers;
-pub use options::Options;
+pub use options::{OptionalNumbers, OptionalTexts, Options};
 pub use polls::{Poll, PollAgain, PollAnnotated};
 pub use slots::{Annotated, FastSlot, LastSlot, SlotClash};
 pub use wide::Wide;

@@ -1,7 +1,6 @@
 //! Worked examples of the format.
 
 mod ample;
-mod annotations;
 mod borrowed;
 mod calls;
 mod checks;
@@ -13,23 +12,18 @@ mod frames;
 mod layouts;
 mod lent;
 mod mixed;
-mod numbers;
 mod pieces;
 mod plain;
-mod pools;
 mod read_values;
-mod reading;
 mod registry;
 mod resolved;
 mod resuming;
 mod sending;
 mod sinks;
-mod tags;
 mod texts;
 mod told;
 mod traces;
 mod unmade;
 mod values;
 mod writers;
-mod writing;
 mod written_values;

@@ -20,6 +20,7 @@ counted counts old new s t (Ok u) h =
     }
 counted counts old new s t (Err e) h = tt
 
+-- a tally of events ends with their number
 pub tally_counts :
     SinkCounts tallies →
     (old new : DecoderState) (s t : Tally) (r : Result (Unit {0}) (TryForEachError Full)) (f : Option Failure) →

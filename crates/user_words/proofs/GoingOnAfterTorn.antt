@@ -15,6 +15,7 @@ pub record FileLaws : Type 0 where
   pub join : TracesJoin
   pub decoded : TraceIsDecoded
 
+-- an event after a torn trace, and the next trace, are one file
 pub one_file :
     {bytes : List ℕ} → FileLaws → (next : List ℕ) (a : Action) (d : DecoderState)
     (old new : EncoderView (Vec ℕ Global)) → IsResumed old.state d.grammar d.pools →
@@ -60,6 +61,7 @@ call_refused d kept a e old new resumed same call = inr (old, new, resumed, same
 
 -- ---- the story of readers of one kind, without faults
 
+-- the whole story with readers of one kind, and without faults
 pub plain_story : OpenedHasTaken → TakesMore → FaultsAreFronts → WholeStory → PlainStory
 plain_story opened more fronts story calls later replies answers sent next c d y x z k first last taken all plays quiet
     parts o g is then none =

@@ -3,14 +3,16 @@
 ghost use Rattle.std.specs.Prelude.{◌≡◌, IfOk, IfSome, map};
 ghost use Rattle.trace_values.specs.Values.{number};
 ghost use Rattle.trace_values.specs.View.{views};
-ghost use Rattle.trace_recordings.specs.Events.{optional_numbers, optional_texts, wide_numbers};
+ghost use Rattle.trace_samples.specs.OptionalFields.{optional_numbers, optional_texts};
+ghost use Rattle.trace_recordings.specs.Events.{wide_numbers};
 
 use crate::typed::Unheld;
 use crate::typed::fields::HoldsValue;
 use std::alloc::Global;
 use trace_samples::events::{
     AlsoByName, Annotated, Borrowed, ByName, Dynamic, FastSlot, LastSlot, Nameless, Numbers,
-    Options, Poll, PollAgain, PollAnnotated, SlotClash, Stacks, Texts, Wide,
+    OptionalNumbers, OptionalTexts, Options, Poll, PollAgain, PollAnnotated, SlotClash, Stacks,
+    Texts, Wide,
 };
 use trace_values::types::{
     BytesField, F64Bits, FieldValue, InternedStackFrames, InternedString, StackFrames, StrField,
@@ -141,15 +143,7 @@ impl<'a> HoldsValues<'a> for PollAnnotated {
         time: u64,
         values: &'a [FieldValue],
     ) -> Result<PollAnnotated, Unheld> {
-        let [worker, cpu, label] = values else {
-            return Err(Unheld::Unfit);
-        };
-        Ok(PollAnnotated {
-            time,
-            worker: u64::of_value(alloc, worker)?,
-            cpu: Option::<u32>::of_value(alloc, cpu)?,
-            label: InternedString::of_value(alloc, label)?,
-        })
+        Ok(PollAnnotated(Poll::of_values(alloc, time, values)?))
     }
 }
 
@@ -226,66 +220,17 @@ impl<'a> HoldsValues<'a> for Borrowed<'a> {
 impl<'a> HoldsValues<'a> for Options {
     fn of_values(alloc: Global, time: u64, values: &'a [FieldValue]) -> Result<Options, Unheld> {
         let (first, last) = values.split_at_checked(7).ok_or(Unheld::Unfit)?;
-        let OptionalNumbers {
-            byte,
-            short,
-            word,
-            long,
-            signed,
-            real,
-            flag,
-        } = optional_numbers_of(alloc, first)?;
-        let OptionalTexts {
-            text,
-            blob,
-            frames,
-            label,
-            stack,
-            pairs,
-        } = optional_texts_of(alloc, last)?;
+        let numbers = optional_numbers_of(alloc, first)?;
+        let texts = optional_texts_of(alloc, last)?;
         Ok(Options {
             time,
-            byte,
-            short,
-            word,
-            long,
-            signed,
-            real,
-            flag,
-            text,
-            blob,
-            frames,
-            label,
-            stack,
-            pairs,
+            numbers,
+            texts,
         })
     }
 }
 
-// The first fields of `Options`.
-#[derive(Clone, Copy)]
-struct OptionalNumbers {
-    byte: Option<u8>,
-    short: Option<u16>,
-    word: Option<u32>,
-    long: Option<u64>,
-    signed: Option<i64>,
-    real: Option<F64Bits>,
-    flag: Option<bool>,
-}
-
-// The other fields of `Options`.
-#[derive(Drop)]
-struct OptionalTexts {
-    text: Option<String>,
-    blob: Option<Vec<u8>>,
-    frames: Option<StackFrames>,
-    label: Option<InternedString>,
-    stack: Option<InternedStackFrames>,
-    pairs: Option<Vec<(String, String)>>,
-}
-
-// The first fields of `Options`, from their values.
+// Numbers and a truth value that may be absent, from their values.
 fn optional_numbers_of(alloc: Global, values: &[FieldValue]) -> Result<OptionalNumbers, Unheld>
     ensures { IfOk result (λ fields. optional_numbers fields ≡ views values.now) }
 {
@@ -303,7 +248,7 @@ fn optional_numbers_of(alloc: Global, values: &[FieldValue]) -> Result<OptionalN
     })
 }
 
-// The other fields of `Options`, from their values.
+// Texts, bytes, stacks and ids that may be absent, from their values.
 fn optional_texts_of(alloc: Global, values: &[FieldValue]) -> Result<OptionalTexts, Unheld>
     ensures { IfOk result (λ fields. optional_texts fields ≡ views values.now) }
 {

@@ -1,10 +1,8 @@
 //! An event type whose fields may all be absent.
 
-ghost use Rattle.std.specs.Prelude.{[], refl, string_bytes, ◌∷◌, ◌≡◌};
-ghost use Rattle.trace_values.specs.Values.{boolean, bytes, float, integer, number, pooled_stack, pooled_text, stack};
-ghost use Rattle.trace_values.specs.Values.{text, texts};
-ghost use Rattle.trace_values.specs.TraceFields.{string_pairs, value_of_option};
+ghost use Rattle.std.specs.Prelude.{refl, ◌++◌, ◌≡◌};
 ghost use Rattle.trace_samples.specs.EventEntries.{options_entry};
+ghost use Rattle.trace_samples.specs.OptionalFields.{optional_numbers, optional_texts};
 
 use trace_values::fields;
 use trace_values::leb128::EncodeError;
@@ -35,11 +33,9 @@ const OPTIONS: Definition = (
     &[],
 );
 
-/// A field that may be absent of each type, of slot 0.
-#[derive(Drop)]
-pub struct Options {
-    /// The time in nanoseconds.
-    pub time: u64,
+/// Numbers and a truth value that may be absent.
+#[derive(Clone, Copy)]
+pub struct OptionalNumbers {
     pub byte: Option<u8>,
     pub short: Option<u16>,
     pub word: Option<u32>,
@@ -47,12 +43,26 @@ pub struct Options {
     pub signed: Option<i64>,
     pub real: Option<F64Bits>,
     pub flag: Option<bool>,
+}
+
+/// Texts, bytes, stacks and ids that may be absent.
+#[derive(Drop)]
+pub struct OptionalTexts {
     pub text: Option<String>,
     pub blob: Option<Vec<u8>>,
     pub frames: Option<StackFrames>,
     pub label: Option<InternedString>,
     pub stack: Option<InternedStackFrames>,
     pub pairs: Option<Vec<(String, String)>>,
+}
+
+/// A field that may be absent of each type, of slot 0.
+#[derive(Drop)]
+pub struct Options {
+    /// The time in nanoseconds.
+    pub time: u64,
+    pub numbers: OptionalNumbers,
+    pub texts: OptionalTexts,
 }
 
 impl TraceEvent for Options {
@@ -62,12 +72,7 @@ impl TraceEvent for Options {
 
     ghost time = { λ e. e.time };
 
-    ghost values = { λ e. value_of_option number e.byte ∷ value_of_option number e.short ∷ value_of_option number e.word
-        ∷ value_of_option number e.long ∷ value_of_option integer e.signed ∷ value_of_option (λ x. float x.0) e.real
-        ∷ value_of_option boolean e.flag ∷ value_of_option (λ x. text (string_bytes x)) e.text
-        ∷ value_of_option (λ x. bytes x.items) e.blob ∷ value_of_option (λ x. stack x.0.items) e.frames
-        ∷ value_of_option (λ x. pooled_text x.0) e.label ∷ value_of_option (λ x. pooled_stack x.0) e.stack
-        ∷ value_of_option (λ x. texts (string_pairs x.items)) e.pairs ∷ [] };
+    ghost values = { λ e. optional_numbers e.numbers ++ optional_texts e.texts };
 
     ghost one_each = { λ _. refl };
 
@@ -84,20 +89,22 @@ impl TraceEvent for Options {
     }
 
     fn encode_fields(&self, enc: &mut EventEncoder<'_>) -> Result<(), EncodeError> {
+        let numbers = &self.numbers;
+        let texts = &self.texts;
         fields!(
-            self.byte,
-            self.short,
-            self.word,
-            self.long,
-            self.signed,
-            self.real,
-            self.flag,
-            self.text,
-            self.blob,
-            self.frames,
-            self.label,
-            self.stack,
-            self.pairs
+            numbers.byte,
+            numbers.short,
+            numbers.word,
+            numbers.long,
+            numbers.signed,
+            numbers.real,
+            numbers.flag,
+            texts.text,
+            texts.blob,
+            texts.frames,
+            texts.label,
+            texts.stack,
+            texts.pairs
         )
         .encode_all(enc)
     }

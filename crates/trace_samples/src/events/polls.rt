@@ -1,9 +1,9 @@
 //! Event types of one name.
 
 ghost use Rattle.std.specs.Prelude.{[], refl, ◌∷◌, ◌≡◌};
-ghost use Rattle.trace_values.specs.Values.{number, pooled_text};
-ghost use Rattle.trace_values.specs.TraceFields.{value_of_option};
+ghost use Rattle.trace_values.specs.Values.{number};
 ghost use Rattle.trace_samples.specs.EventEntries.{poll_entry, poll_again_entry, poll_annotated_entry};
+ghost use Rattle.trace_samples.specs.Polls.{poll_values};
 
 use trace_values::fields;
 use trace_values::leb128::EncodeError;
@@ -12,15 +12,13 @@ use trace_writer::definition::Definition;
 use trace_writer::event::TraceEvent;
 use trace_writer::fields::TraceFields;
 
-const POLL: Definition = (
-    "Poll",
-    &[
-        ("worker", FieldType::Varint),
-        ("cpu", FieldType::OptionalU32),
-        ("label", FieldType::PooledString),
-    ],
-    &[],
-);
+const POLL_FIELDS: &[(&str, FieldType)] = &[
+    ("worker", FieldType::Varint),
+    ("cpu", FieldType::OptionalU32),
+    ("label", FieldType::PooledString),
+];
+
+const POLL: Definition = ("Poll", POLL_FIELDS, &[]);
 
 /// A poll of a task by a worker, on a core where it is known, of slot 0.
 #[derive(Drop)]
@@ -39,7 +37,7 @@ impl TraceEvent for Poll {
 
     ghost time = { λ e. e.time };
 
-    ghost values = { λ e. number e.worker ∷ value_of_option number e.cpu ∷ pooled_text e.label.0 ∷ [] };
+    ghost values = { poll_values };
 
     ghost one_each = { λ _. refl };
 
@@ -103,34 +101,20 @@ impl TraceEvent for PollAgain {
     }
 }
 
-const POLL_ANNOTATED: Definition = (
-    "Poll",
-    &[
-        ("worker", FieldType::Varint),
-        ("cpu", FieldType::OptionalU32),
-        ("label", FieldType::PooledString),
-    ],
-    &[(1, "unit", "index")],
-);
+const POLL_ANNOTATED: Definition = ("Poll", POLL_FIELDS, &[(1, "unit", "index")]);
 
 /// The name and the fields of `Poll`, and an annotation.
 #[derive(Drop)]
-pub struct PollAnnotated {
-    /// The time in nanoseconds.
-    pub time: u64,
-    pub worker: u64,
-    pub cpu: Option<u32>,
-    pub label: InternedString,
-}
+pub struct PollAnnotated(pub Poll);
 
 impl TraceEvent for PollAnnotated {
     ghost slot = { 0 };
 
     ghost entry = { poll_annotated_entry };
 
-    ghost time = { λ e. e.time };
+    ghost time = { λ e. e.0.time };
 
-    ghost values = { λ e. number e.worker ∷ value_of_option number e.cpu ∷ pooled_text e.label.0 ∷ [] };
+    ghost values = { λ e. poll_values e.0 };
 
     ghost one_each = { λ _. refl };
 
@@ -143,10 +127,10 @@ impl TraceEvent for PollAnnotated {
     }
 
     fn timestamp(&self) -> u64 {
-        self.time
+        self.0.time
     }
 
     fn encode_fields(&self, enc: &mut EventEncoder<'_>) -> Result<(), EncodeError> {
-        fields!(self.worker, self.cpu, self.label).encode_all(enc)
+        self.0.encode_fields(enc)
     }
 }

@@ -1,7 +1,6 @@
 //! Calls of encoders and decoders that promise nothing, so that proofs of tests that make many of them stay small.
 
 use dial9_trace_format::TraceEvent;
-use dial9_trace_format::codec::WireTypeId;
 use dial9_trace_format::decoder::{DecodedFrame, Decoder};
 use dial9_trace_format::encoder::{Call, Encoder, Reply, Schema, run_calls};
 use dial9_trace_format::leb128::EncodeError;
@@ -26,11 +25,6 @@ pub fn intern_stack(
     addresses: &[u64],
 ) -> Result<InternedStackFrames, EncodeError> {
     encoder.intern_stack_frames(addresses)
-}
-
-/// `Encoder::register_existing`.
-pub fn register(encoder: &mut Encoder, schema: &Schema) -> Result<WireTypeId, EncodeError> {
-    encoder.register_existing(schema)
 }
 
 /// `Encoder::register_schema`.
@@ -80,11 +74,6 @@ pub fn decoder_of(alloc: Global, bytes: &[u8]) -> Result<Decoder<'_>, Fail> {
 /// `Decoder::next_frame`.
 pub fn next(decoder: &mut Decoder<'_>) -> Result<Option<DecodedFrame>, Fail> {
     Ok(decoder.next_frame()?)
-}
-
-/// `Decoder::next_frame`, where one stands.
-pub fn next_one(decoder: &mut Decoder<'_>) -> Result<DecodedFrame, Fail> {
-    Ok(decoder.next_frame()?.ok_or("no frame")?)
 }
 
 /// `Decoder::decode_all`.

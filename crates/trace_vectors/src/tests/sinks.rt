@@ -59,20 +59,6 @@ pub fn is_shown(
     is_told && is_placed && (visitor.events, visitor.times) == seen
 }
 
-/// The one event, and the front of a second header.
-const CUT_HEADER: [u8; 30] = [
-    0x54, 0x52, 0x43, 0x00, 0x01, 0x01, 0x00, 0x01, 0x02, 0x00, 0x45, 0x76, 0x01, 0x01, 0x00, 0x01,
-    0x00, 0x76, 0x09, 0x02, 0x00, 0x01, 0xE8, 0x03, 0x00, 0x2A, 0x54, 0x52, 0x43, 0x00,
-];
-
-#[test]
-fn second_header_cut(rt: HostRuntime) -> Result<(), Fail> {
-    let mut decoder = decoder_of(rt.alloc(), &CUT_HEADER)?;
-    let no_frame = DecodeErrorKind::NoFrame(0x54);
-    assert!(rt; is_shown(&mut decoder, (1, 1_000), &no_frame, 26));
-    Ok(())
-}
-
 /// Adds the numbers of events, and refuses the event after so many.
 #[derive(Drop)]
 pub struct Adding {

@@ -1,4 +1,4 @@
-//! The texts of errors.
+//! The texts of errors that no recording shows.
 
 use dial9_trace_format::codec::WireTypeId;
 use dial9_trace_format::decoder::{DecodeError, DecodeErrorKind, TryForEachError};
@@ -32,35 +32,6 @@ const ENCODING: [(EncodeError, &str); 11] = [
     (EncodeError::Failed, "encoder has failed"),
 ];
 
-const DECODING: [(DecodeErrorKind, &str); 11] = [
-    (DecodeErrorKind::TruncatedEvent, "truncated event frame"),
-    (
-        DecodeErrorKind::UnknownTypeId(WireTypeId(7)),
-        "unknown type_id WireTypeId(7)",
-    ),
-    (DecodeErrorKind::TruncatedDelta, "truncated timestamp delta"),
-    (DecodeErrorKind::TimestampOverflow, "timestamp overflow"),
-    (
-        DecodeErrorKind::TruncatedPrefix,
-        "truncated optional field prefix",
-    ),
-    (
-        DecodeErrorKind::TruncatedOptional,
-        "truncated optional field value",
-    ),
-    (DecodeErrorKind::TruncatedValue, "truncated field value"),
-    (DecodeErrorKind::TruncatedReset, "truncated timestamp reset"),
-    (
-        DecodeErrorKind::NoFrame(0x0A),
-        "failed to decode frame with tag 0x0a",
-    ),
-    (
-        DecodeErrorKind::Conflict(WireTypeId(256)),
-        "type_id WireTypeId(256) already registered with different schema",
-    ),
-    (DecodeErrorKind::OutOfMemory, "out of memory"),
-];
-
 const REGISTERING: [(RegisterError, &str); 2] = [
     (
         RegisterError::Conflict(WireTypeId(9)),
@@ -85,14 +56,14 @@ fn errors_of_registering(rt: HostRuntime) -> Result<(), Fail> {
     Ok(())
 }
 
-/// Errors of a reader that shows events to a sink: its own, and one of the sink.
+/// Errors of a reader that shows events to a sink that recordings have not: want of memory, and the sink's own.
 const SHOWING: [(TryForEachError<EncodeError>, &str); 2] = [
     (
         TryForEachError::Decode(DecodeError {
             pos: 7,
-            kind: DecodeErrorKind::TruncatedEvent,
+            kind: DecodeErrorKind::OutOfMemory,
         }),
-        "decode error at byte 7: truncated event frame",
+        "decode error at byte 7: out of memory",
     ),
     (
         TryForEachError::User(EncodeError::Failed),
@@ -101,10 +72,7 @@ const SHOWING: [(TryForEachError<EncodeError>, &str); 2] = [
 ];
 
 #[test]
-fn errors_of_decoding_and_showing(rt: HostRuntime) -> Result<(), Fail> {
-    for (kind, text) in DECODING {
-        assert!(rt; format!(in rt.alloc(); "{kind}")?.as_str() == text);
-    }
+fn errors_of_showing(rt: HostRuntime) -> Result<(), Fail> {
     for (error, text) in SHOWING {
         assert!(rt; format!(in rt.alloc(); "{error}")?.as_str() == text);
     }

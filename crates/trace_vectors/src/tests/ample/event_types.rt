@@ -1,7 +1,7 @@
 //! Many events of one type.
 
-use crate::tests::ample::borrowed::{gives_events, is_read_at_once, shows_each};
-use crate::tests::calls::{all_of, fresh, put};
+use crate::tests::ample::traces::check_trace;
+use crate::tests::calls::{fresh, put};
 use dial9_trace_format::leb128::EncodeError;
 use std::alloc::Global;
 use std::test::Fail;
@@ -19,9 +19,5 @@ fn events(alloc: Global, count: usize) -> Result<Vec<u8>, EncodeError> {
 #[test]
 fn a_hundred_thousand_frames(rt: HostRuntime) -> Result<(), Fail> {
     let bytes = events(rt.alloc(), 99_999)?;
-    assert!(rt; all_of(rt.alloc(), &bytes)?.len() == 100_000);
-    assert!(rt; is_read_at_once(rt.alloc(), &bytes, 100_000)?);
-    assert!(rt; gives_events(rt.alloc(), &bytes, 99_999)?);
-    assert!(rt; shows_each(rt.alloc(), &bytes)?);
-    Ok(())
+    check_trace(&rt, rt.alloc(), &bytes, 100_000)
 }

@@ -4,10 +4,9 @@
 use crate::tests::ample::schemas::fields;
 use crate::tests::ample::traces::check_trace;
 use crate::tests::ample::{COUNTS, MILLION, SIZED, SIZES, spelled_length, text, value};
-use crate::tests::calls::{all_of, fresh, put_event, register_new, run};
+use crate::tests::calls::{fresh, put_event, register_new, run};
 use crate::tests::frames::EACH_KIND;
 use crate::tests::traces::one_definition;
-use dial9_trace_format::decoder::DecodedFrame;
 use dial9_trace_format::encoder::{Call, Encoder, Reply};
 use dial9_trace_format::leb128::EncodeError;
 use dial9_trace_format::schema::FieldDef;
@@ -47,20 +46,7 @@ fn event(
     event_of(alloc, fields, values)
 }
 
-/// The last of the frames is an event of these values.
-fn is_last(frames: &[DecodedFrame], wanted: &[FieldValue]) -> bool {
-    match frames.last() {
-        Some(DecodedFrame::Event { values, .. }) => values.as_slice() == wanted,
-        _ => false,
-    }
-}
-
-/// The last frame of the trace is an event of these values.
-fn reads_last(alloc: Global, bytes: &[u8], wanted: &[FieldValue]) -> Result<bool, Fail> {
-    Ok(is_last(&all_of(alloc, bytes)?, wanted))
-}
-
-/// An event of a value of this size is written, and read with that value.
+/// An event of a value of this size is written and read.
 fn check_sized(
     rt: &impl Abort,
     alloc: Global,
@@ -71,7 +57,6 @@ fn check_sized(
     let bytes = event(alloc, field_type, &values)?;
     let length = spelled_length(field_type, size).saturating_add(24);
     assert!(rt; bytes.len() as u64 == length);
-    assert!(rt; reads_last(alloc, &bytes, &values)?);
     check_trace(rt, alloc, &bytes, 2)
 }
 

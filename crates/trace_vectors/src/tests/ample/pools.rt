@@ -2,8 +2,7 @@
 
 use crate::tests::ample::traces::check_trace;
 use crate::tests::ample::{COUNTS, MILLION, SIZES, text};
-use crate::tests::calls::{fresh, intern, intern_stack};
-use crate::tests::pools::reads_so_many;
+use crate::tests::calls::{fresh, intern, intern_stack, read_out};
 use dial9_trace_format::codec::{PoolEntry, StackPoolEntry};
 use dial9_trace_format::encoder::Encoder;
 use dial9_trace_format::leb128::EncodeError;
@@ -92,6 +91,12 @@ fn pools(alloc: Global, count: usize) -> Result<Vec<u8>, EncodeError> {
     put_strings(alloc, &mut encoder, count)?;
     put_stacks(alloc, &mut encoder, count)?;
     Ok(encoder.finish())
+}
+
+/// The pools have so many texts and so many stacks after all frames.
+fn reads_so_many(alloc: Global, bytes: &[u8], count: usize) -> Result<bool, Fail> {
+    let decoder = read_out(alloc, bytes)?;
+    Ok(decoder.string_pool().len() == count && decoder.stack_pool().len() == count)
 }
 
 #[test]

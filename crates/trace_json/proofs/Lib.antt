@@ -1,0 +1,7 @@
+pub mod Tokens
+pub mod OneMore
+pub mod KindsPut
+pub mod Floats
+pub mod LineLemmas
+pub mod RawPairs
+pub mod Shallow

@@ -1,0 +1,189 @@
+-- Tokens that are written one after another.
+use Rattle.std.proofs.Common.{◌≡◌, ℕ, ◌+◌, ◌<◌, ◌≤◌, length, take, get_or, List, [], ◌∷◌, ◌++◌, map as list_map, codes, Result, Ok, Err, OnOk}
+use Rattle.std.proofs.Common.{refl, sym, ap, ◌∙◌, append_assoc, append-nil}
+use Rattle.std.specs.List.{flat_map}
+use Rattle.std.proofs.lemmas.List.{flat_map_more, take_more, take_all}
+use Rattle.std.proofs.lemmas.List.Folds.{flat_map-map}
+use Rattle.json.specs.Json.{Json}
+use Rattle.json.specs.Token.{Token, begin_object, end_object, begin_array, end_array}
+use Rattle.json.specs.Tree.{json_tokens, items_tokens, members_tokens}
+use Rattle.trace_json.specs.EventJson.{items_of, members_of, list_json, object_json, pair_json, IsPairOf, event_json}
+use Rattle.trace_json.specs.Put.{Stands, StandAll, member_tokens, head_tokens}
+
+-- ---- lists and objects, by their parts
+
+items_tokens_of : (js : List Json) → items_tokens (items_of js) ≡ flat_map json_tokens js ++ end_array ∷ []
+items_tokens_of [] = refl
+items_tokens_of (j ∷ js) =
+    ap (λ (t : List Token). json_tokens j ++ t) (items_tokens_of js)
+    ∙ sym (append_assoc (json_tokens j) (flat_map json_tokens js) (end_array ∷ []))
+
+members_tokens_of :
+    (ms : List (List ℕ × Json)) → members_tokens (members_of ms) ≡ flat_map member_tokens ms ++ end_object ∷ []
+members_tokens_of [] = refl
+members_tokens_of (m ∷ ms) =
+    ap (λ (t : List Token). member_tokens m ++ t) (members_tokens_of ms)
+    ∙ sym (append_assoc (member_tokens m) (flat_map member_tokens ms) (end_object ∷ []))
+
+-- ---- an opening token, what is inside, and a closing one
+
+in_three : (a b c d : List Token) → ((a ++ b) ++ c) ++ d ≡ a ++ (b ++ (c ++ d))
+in_three a b c d = simp append_assoc
+
+enclosed :
+    {E : Type 0} (r : Result (Unit {0}) E) (old one two new opening inside closing : List Token) →
+    one ≡ old ++ opening → two ≡ one ++ inside → OnOk r (new ≡ two ++ closing) →
+    OnOk r (new ≡ old ++ (opening ++ (inside ++ closing)))
+enclosed (Ok u) old one two new opening inside closing a b e =
+    e ∙ ap (λ (t : List Token). t ++ closing) (b ∙ ap (λ (t : List Token). t ++ inside) a)
+    ∙ in_three old opening inside closing
+enclosed (Err x) old one two new opening inside closing a b e = tt
+
+along : {E : Type 0} (r : Result (Unit {0}) E) (new old a b : List Token) → a ≡ b → OnOk r (new ≡ old ++ a) →
+    OnOk r (new ≡ old ++ b)
+along (Ok u) new old a b same e = e ∙ ap (λ (t : List Token). old ++ t) same
+along (Err x) new old a b same e = tt
+
+list_put :
+    {E : Type 0} (r : Result (Unit {0}) E) (js : List Json) (old one two new : List Token) →
+    one ≡ old ++ begin_array ∷ [] → two ≡ one ++ flat_map json_tokens js → OnOk r (new ≡ two ++ end_array ∷ []) →
+    OnOk r (new ≡ old ++ json_tokens (list_json js))
+list_put r js old one two new a b e =
+    along r new old _ _ (ap (λ (t : List Token). begin_array ∷ t) (sym (items_tokens_of js)))
+    (enclosed r old one two new (begin_array ∷ []) (flat_map json_tokens js) (end_array ∷ []) a b e)
+
+-- the same of a list of what things are
+pub mapped_put :
+    {E A : Type 0} (r : Result (Unit {0}) E) (f : A → Json) (xs : List A) (old one two new : List Token) →
+    one ≡ old ++ begin_array ∷ [] → two ≡ one ++ flat_map (λ x. json_tokens (f x)) xs →
+    OnOk r (new ≡ two ++ end_array ∷ []) →
+    OnOk r (new ≡ old ++ json_tokens (list_json (list_map f xs)))
+mapped_put r f xs old one two new a b e =
+    list_put r (list_map f xs) old one two new a
+    (b ∙ ap (λ (t : List Token). one ++ t) (sym (flat_map-map json_tokens f xs))) e
+
+-- a key and a value were put as a list of two
+pub pair_put :
+    {E : Type 0} (r : Result (Unit {0}) E) (key value : Json) (old one two three new : List Token) →
+    one ≡ old ++ begin_array ∷ [] → two ≡ one ++ json_tokens key → three ≡ two ++ json_tokens value →
+    OnOk r (new ≡ three ++ end_array ∷ []) → OnOk r (new ≡ old ++ json_tokens (pair_json key value))
+pair_put r key value old one two three new a b c e =
+    along r new old _ _
+    (ap (λ (t : List Token). begin_array ∷ t) (append_assoc (json_tokens key) (json_tokens value) (end_array ∷ [])))
+    (enclosed r old one three new (begin_array ∷ []) (json_tokens key ++ json_tokens value) (end_array ∷ []) a
+    (c ∙ ap (λ (t : List Token). t ++ json_tokens value) b
+    ∙ append_assoc one (json_tokens key) (json_tokens value)) e)
+
+-- ---- the same of JSON of which something is so
+
+-- while pairs are left, or a thing is put, one stands there
+pub one_stands :
+    {E : Type 0} (r : Result (Unit {0}) E) (is : Json → Type 0) (j : Json) (old new : List Token) → is j →
+    OnOk r (new ≡ old ++ json_tokens j) → OnOk r (Stands is old new)
+one_stands (Ok u) is j old new so e = record { json = j; is_so = so; tokens = e }
+one_stands (Err x) is j old new so e = tt
+
+-- a list was put from its first bracket to its last
+pub list_stands :
+    {E : Type 0} (r : Result (Unit {0}) E) (are : List Json → Type 0) (old one two new : List Token) →
+    one ≡ old ++ begin_array ∷ [] → StandAll json_tokens are one two → OnOk r (new ≡ two ++ end_array ∷ []) →
+    OnOk r (Stands (λ j. (js : List Json) × are js × (j ≡ list_json js)) old new)
+list_stands r are old one two new a s e =
+    one_stands r (λ j. (js : List Json) × are js × (j ≡ list_json js)) (list_json s.all) old new
+    (s.all, s.are_so, refl) (list_put r s.all old one two new a s.tokens e)
+
+-- an object was put from its first brace to its last
+pub object_stands :
+    {E : Type 0} (r : Result (Unit {0}) E) (are : List (List ℕ × Json) → Type 0) (old one two new : List Token) →
+    one ≡ old ++ begin_object ∷ [] → StandAll member_tokens are one two → OnOk r (new ≡ two ++ end_object ∷ []) →
+    OnOk r (Stands (λ j. (ms : List (List ℕ × Json)) × are ms × (j ≡ object_json ms)) old new)
+object_stands r are old one two new a s e =
+    one_stands r (λ j. (ms : List (List ℕ × Json)) × are ms × (j ≡ object_json ms)) (object_json s.all) old new
+    (s.all, s.are_so, refl)
+    (along r new old _ _ (ap (λ (t : List Token). begin_object ∷ t) (sym (members_tokens_of s.all)))
+    (enclosed r old one two new (begin_object ∷ []) (flat_map member_tokens s.all) (end_object ∷ []) a s.tokens e))
+
+pub pair_stands :
+    {E : Type 0} (r : Result (Unit {0}) E) (is_key is_value : Json → Type 0) (old one two three new : List Token) →
+    one ≡ old ++ begin_array ∷ [] → Stands is_key one two → Stands is_value two three →
+    OnOk r (new ≡ three ++ end_array ∷ []) → OnOk r (Stands (IsPairOf is_key is_value) old new)
+pair_stands r is_key is_value old one two three new a key value e =
+    one_stands r (IsPairOf is_key is_value) (pair_json key.json value.json) old new
+    (key.json, value.json, key.is_so, value.is_so, refl)
+    (pair_put r key.json value.json old one two three new a key.tokens value.tokens e)
+
+-- the same inside a loop
+pub pair_closed :
+    (is_key is_value : Json → Type 0) (old one two three new : List Token) →
+    one ≡ old ++ begin_array ∷ [] → Stands is_key one two → Stands is_value two three →
+    new ≡ three ++ end_array ∷ [] → Stands (IsPairOf is_key is_value) old new
+pair_closed is_key is_value old one two three new a key value e =
+    pair_stands {E = ℕ} (Ok tt) is_key is_value old one two three new a key value e
+
+-- an event was put from its name to its last brace
+pub event_stands :
+    {E : Type 0} (r : Result (Unit {0}) E) (is : Json → Type 0) (name : List ℕ) (time : ℕ)
+    (old one two new : List Token) →
+    one ≡ old ++ head_tokens name time → Stands is one two → OnOk r (new ≡ two ++ end_object ∷ []) →
+    OnOk r (Stands (λ j. (fields : Json) × is fields × (j ≡ event_json name time fields)) old new)
+event_stands r is name time old one two new a s e =
+    one_stands r (λ j. (fields : Json) × is fields × (j ≡ event_json name time fields))
+    (event_json name time s.json) old new
+    (s.json, s.is_so, refl)
+    (enclosed r old one two new (head_tokens name time) (json_tokens s.json) (end_object ∷ []) a s.tokens e)
+
+-- ---- tokens put one by one
+
+four_tokens :
+    (a b c d : Token) (old one two three new : List Token) →
+    one ≡ old ++ a ∷ [] → two ≡ one ++ b ∷ [] → three ≡ two ++ c ∷ [] → new ≡ three ++ d ∷ [] →
+    new ≡ old ++ a ∷ b ∷ c ∷ d ∷ []
+four_tokens a b c d old one two three new p q s e = rw (e, s, q, p) (simp append_assoc)
+
+-- the third of them told otherwise
+pub put_four :
+    {E : Type 0} (r : Result (Unit {0}) E) (a b c d told : Token) (old one two three new : List Token) → c ≡ told →
+    one ≡ old ++ a ∷ [] → two ≡ one ++ b ∷ [] → three ≡ two ++ c ∷ [] → OnOk r (new ≡ three ++ d ∷ []) →
+    OnOk r (new ≡ old ++ a ∷ b ∷ told ∷ d ∷ [])
+put_four (Ok u) a b c d told old one two three new same p q s e =
+    four_tokens a b c d old one two three new p q s e ∙ ap (λ (t : Token). old ++ a ∷ b ∷ t ∷ d ∷ []) same
+put_four (Err x) a b c d told old one two three new same p q s e = tt
+
+-- six tokens were put, one after another
+pub put_six :
+    {E : Type 0} (r : Result (Unit {0}) E) (a b c d x y : Token) (old one two three four five new : List Token) →
+    one ≡ old ++ a ∷ [] → two ≡ one ++ b ∷ [] → three ≡ two ++ c ∷ [] → four ≡ three ++ d ∷ [] →
+    five ≡ four ++ x ∷ [] → OnOk r (new ≡ five ++ y ∷ []) →
+    OnOk r (new ≡ old ++ a ∷ b ∷ c ∷ d ∷ x ∷ y ∷ [])
+put_six (Ok u) a b c d x y old one two three four five new p q s t v e = rw (e, v, t, s, q, p) (simp append_assoc)
+put_six (Err z) a b c d x y old one two three four five new p q s t v e = tt
+
+-- ---- things written in a loop
+
+-- where nothing was put all is as before
+pub nothing_put : (start : List Token) → start ≡ start ++ []
+nothing_put start = sym (append-nil start)
+
+-- one thing more
+pub one_more :
+    {A : Type 0} (each : A → List Token) (are next : List A → Type 0) (start old new : List Token) (x : A) →
+    StandAll each are start old → new ≡ old ++ each x → ((xs : List A) → are xs → next (xs ++ x ∷ [])) →
+    StandAll each next start new
+one_more each are next start old new x s e more = record {
+  all = s.all ++ x ∷ [];
+  are_so = more s.all s.are_so;
+  tokens = e ∙ ap (λ (t : List Token). t ++ each x) s.tokens ∙ flat_map_more each start s.all x;
+}
+
+-- one thing more, whose tokens are known
+pub shown_more :
+    {A : Type 0} (each : A → List Token) (start old new : List Token) (xs : List A) (i : ℕ) (x : A) →
+    i < length xs → x ≡ get_or xs i x → old ≡ start ++ flat_map each (take i xs) → new ≡ old ++ each x →
+    new ≡ start ++ flat_map each (take (i + 1) xs)
+shown_more each start old new xs i x lt is before after =
+    rw (after, before, take_more xs i x lt, ← is) (flat_map_more each start (take i xs) x)
+
+pub shown_all :
+    {A : Type 0} (each : A → List Token) (start new : List Token) (xs : List A) (i : ℕ) → length xs ≤ i →
+    new ≡ start ++ flat_map each (take i xs) → new ≡ start ++ flat_map each xs
+shown_all {A} each start new xs i le e = e ∙ ap (λ (l : List A). start ++ flat_map each l) (take_all i xs le)

@@ -1,0 +1,41 @@
+use Rattle.std.proofs.Common.{◌≡◌, [], ap, refl, ◌∙◌, drop}
+use Rattle.trace_values.specs.Refs.{ref_view}
+use Rattle.dial9_trace_format.specs.Resolving.{as_pools}
+use Rattle.dial9_trace_format.specs.ShownEvents.{names_of}
+use Rattle.trace_json.specs.EventJson.{AreFieldsJson}
+use Rattle.trace_json.specs.Put.{member_tokens}
+use Rattle.trace_json.proofs.Tokens.{nothing_put}
+use Rattle.trace_json.proofs.OneMore.{all_stand, drop_next, field_stands}
+use Rattle.trace_json.proofs.fields.put_fields.Goals as goal
+
+pub fields-init : goal.fields-init
+fields-init c = record {
+  names = ap names_of c.fields-names.ensures;
+  tokens = record { all = []; are_so = refl; tokens = nothing_put c.args.out.now.tokens };
+  before = refl;
+}
+
+pub fields-preserved : goal.fields-preserved
+fields-preserved c =
+    let e = c.args.event.now in
+    record {
+      names = c.first_name.ensures.others ∙ ap (drop 1) c.fields.invariant.names
+          ∙ drop_next c.fields.value-index (names_of e.schema.now.fields);
+      tokens = field_stands (as_pools e.string_pool.now e.stack_pool.now) (names_of e.schema.now.fields)
+          (names_of c.fields.names.now) ref_view e.fields.now c.fields.value-index c.value-item.result
+          c.first_name.result.0.now
+          _ _ _ _ c.fields-test.true c.value-item.is c.fields.invariant.names c.first_name.ensures.name
+          c.fields.invariant.tokens
+          c.in-Ok-tri.ensures.ok c.in-Ok-tri-2.ensures.tokens;
+      before = c.in-Ok-tri-2.ensures.before ∙ c.in-Ok-tri.ensures.room.0 ∙ c.fields.invariant.before;
+    }
+
+pub returns : goal.returns
+returns c =
+    let e = c.args.event.now in
+    record {
+      tokens = all_stand member_tokens (AreFieldsJson (as_pools e.string_pool.now e.stack_pool.now)
+          (names_of e.schema.now.fields)) ref_view e.fields.now c.fields.value-index _ _ c.fields-test.false
+          c.fields.invariant.tokens;
+      before = c.fields.invariant.before;
+    }

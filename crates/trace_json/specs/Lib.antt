@@ -1,0 +1,4 @@
+pub mod EventJson
+pub mod Put
+pub mod Lines
+pub mod Laws

@@ -1,0 +1,49 @@
+//! The fields of an event as JSON.
+
+ghost use Rattle.std.specs.Prelude.{◌≡◌, [], drop, get_or};
+ghost use Rattle.trace_values.specs.Refs.{ref_views};
+ghost use Rattle.dial9_trace_format.specs.Resolving.{as_pools};
+ghost use Rattle.dial9_trace_format.specs.ShownEvents.{names_of};
+ghost use Rattle.trace_json.specs.EventJson.{AreFieldsJson};
+ghost use Rattle.trace_json.specs.Put.{PutsAll, member_tokens};
+
+use crate::value::put_value;
+use dial9_trace_format::decoder::RawEvent;
+use json::Writer;
+use std::alloc::{AllocError, Global};
+use trace_values::tri;
+use trace_wire::schema::FieldDef;
+
+/// Writes the members of an event's fields, one after another: each value under its name, and where the schema has no
+/// name for it, under the empty one. `AllocError` where a growth was refused.
+pub(crate) fn put_fields(
+    alloc: Global,
+    out: &mut Writer,
+    event: &RawEvent<'_, '_>,
+) -> Result<(), AllocError>
+    ensures tokens { PutsAll member_tokens
+        (AreFieldsJson (as_pools event.now.string_pool.now event.now.stack_pool.now)
+        (names_of event.now.schema.now.fields) (ref_views event.now.fields.now)) out.old out.new
+        result }
+    ensures before { out.new.before ≡ out.old.before }
+{
+    let mut names = event.schema.fields();
+    'fields: for value in event.fields {
+        let (name, others) = first_name(names);
+        tri!(out.key(name));
+        tri!(put_value(alloc, out, event.string_pool, event.stack_pool, value));
+        names = others;
+    }
+    Ok(())
+}
+
+// The first name, or the empty one where there is none, and the fields after it.
+fn first_name(fields: &[FieldDef]) -> (&str, &[FieldDef])
+    ensures name { result.0.now ≡ get_or (names_of fields.now) 0 [] }
+    ensures others { names_of result.1.now ≡ drop 1 (names_of fields.now) }
+{
+    match fields.split_first() {
+        Some((field, others)) => (field.name(), others),
+        None => ("", fields),
+    }
+}

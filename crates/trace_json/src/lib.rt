@@ -1,0 +1,11 @@
+//! Events of a trace as lines of JSON (docs/FORMAT.md, "Lines of JSON").
+#![tactic(auto)]
+
+mod fields;
+pub mod laws;
+mod leaves;
+pub mod line;
+#[cfg(test)]
+mod tests;
+mod texts;
+mod value;
