@@ -1,4 +1,5 @@
-//! Reads a trace of requests from standard input, and prints a line for each event and one for the end (docs/USING.md, "A reader").
+//! Reads a trace of requests from standard input, and prints a line for each event and one for the end
+//! (docs/USING.md, "A reader").
 #![tactic(auto)]
 
 mod report;

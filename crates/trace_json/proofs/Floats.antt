@@ -1,5 +1,6 @@
 -- What is written of a float.
-use Rattle.std.proofs.Common.{◌≡◌, ℕ, Bool, true, false, List, [], ◌∷◌, ◌++◌, refl, sym, ap, subst, ◌∙◌, Result, Ok, Err, OnOk}
+use Rattle.std.proofs.Common.{◌≡◌, ℕ, Bool, true, false, List, [], ◌∷◌, ◌++◌, refl, sym, ap, subst, ◌∙◌, Result, Ok}
+use Rattle.std.proofs.Common.{Err, OnOk}
 use Rattle.std.specs.Bool.{MatchBool}
 use Rattle.std.specs.Float.{float_is_finite}
 use Rattle.std.specs.Float.Ieee.{Float, binary64}

@@ -50,7 +50,8 @@ pub float_put :
     {E : Type 0} (p : Pools) (r : Result (Unit {0}) E) (v : FieldValueRef) (n : ℕ) (old new : List Token) →
     v ≡ refs.F64 n → OnOk r (Stands (IsValueJson p (values.float n)) old new) →
     OnOk r (Stands (IsValueJson p (flat_form (ref_view v))) old new)
-float_put p r v n old new is put = seen_as p r v (refs.F64 n) (values.float n) old new is (search (rules, the_lemmas)) put
+float_put p r v n old new is put = seen_as p r v (refs.F64 n) (values.float n) old new is (search (rules, the_lemmas))
+    put
 
 -- a truth value was put
 pub boolean_put :
@@ -88,7 +89,8 @@ pub pooled_text_put :
     OnOk r (Stands (IsValueJson p (flat_form (ref_view v))) old new)
 pooled_text_put p r v id old new is put =
     seen_as p r v (refs.PooledString id) (values.pooled_text id.0) old new is (search (rules, the_lemmas))
-    (one_stands r (IsValueJson p (values.pooled_text id.0)) (pooled_text_json id.0 (finmap.get p.strings id.0)) old new
+    (one_stands r (IsValueJson p (values.pooled_text id.0)) (pooled_text_json id.0 (finmap.get p.strings id.0)) old
+    new
     refl put)
 
 -- the stack of an id was put, or the id
@@ -100,12 +102,14 @@ pub pooled_stack_put :
     OnOk r (Stands (IsValueJson p (flat_form (ref_view v))) old new)
 pooled_stack_put p r v id old new is put =
     seen_as p r v (refs.PooledStackFrames id) (values.pooled_stack id.0) old new is (search (rules, the_lemmas))
-    (one_stands r (IsValueJson p (values.pooled_stack id.0)) (pooled_stack_json id.0 (finmap.get p.stacks id.0)) old new
+    (one_stands r (IsValueJson p (values.pooled_stack id.0)) (pooled_stack_json id.0 (finmap.get p.stacks id.0)) old
+    new
     refl put)
 
 -- a stack was put
 pub stack_put :
-    {E : Type 0} (p : Pools) (r : Result (Unit {0}) E) (v : FieldValueRef) (s : StackFramesRef) (old new : List Token) →
+    {E : Type 0} (p : Pools) (r : Result (Unit {0}) E) (v : FieldValueRef) (s : StackFramesRef) (old new : List Token)
+    →
     v ≡ refs.StackFrames s → OnOk r (new ≡ old ++ json_tokens (stack_json (stack_view s))) →
     OnOk r (Stands (IsValueJson p (flat_form (ref_view v))) old new)
 stack_put p r v s old new is put =
@@ -128,7 +132,8 @@ pub texts_put :
     OnOk r (Stands (IsValueJson p (flat_form (ref_view v))) old new)
 texts_put p r v m old new is put =
     seen_as p r v (refs.StringMap m) (values.texts (string_map_view m)) old new is (search (rules, the_lemmas))
-    (one_stands r (IsValueJson p (values.texts (string_map_view m))) (texts_json (string_map_view m)) old new refl put)
+    (one_stands r (IsValueJson p (values.texts (string_map_view m))) (texts_json (string_map_view m)) old new refl
+    put)
 
 -- what is of none of these kinds
 pub null_put :
@@ -149,5 +154,6 @@ pub map_seen :
 map_seen p r v m pairs old new is same put =
     let seen : ref_view v ≡ values.map (values_to_pairs (ref_pair_views pairs)) =
     ap ref_view is ∙ view_map_ref m
-    ∙ ap (λ (ps : List (FieldValueRef × FieldValueRef)). values.map (values_to_pairs (ref_pair_views ps))) (sym same) in
+    ∙ ap (λ (ps : List (FieldValueRef × FieldValueRef)). values.map (values_to_pairs (ref_pair_views ps)))
+    (sym same) in
     subst (λ (u : Value). OnOk r (Stands (IsValueJson p u) old new)) (sym seen) put

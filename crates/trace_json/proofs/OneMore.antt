@@ -10,7 +10,8 @@ use Rattle.trace_values.specs.Values.{Value}
 use Rattle.trace_values.specs.Reading.{values_to_items, values_to_pairs}
 use Rattle.trace_wire.specs.Runs.{Pools}
 use Rattle.trace_json.specs.EventJson.{IsValueJson, AreItemsJson, ArePairsJson, IsPairOf, AreFieldsJson}
-use Rattle.trace_json.specs.Put.{Stands, StandAll, member_tokens}
+use Rattle.trace_json.specs.Put.{Stands}
+use Rattle.trace_json.specs.parts.Put.{StandAll, member_tokens}
 use Rattle.trace_json.proofs.Tokens.{one_more}
 
 items_more :

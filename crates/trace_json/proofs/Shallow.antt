@@ -26,8 +26,8 @@ use Rattle.dial9_trace_format.specs.ShownEvents.{ShownEvent, names_of}
 use Rattle.dial9_trace_format.specs.Sinks.{events_of, event_of, event_by}
 use Rattle.trace_json.specs.EventJson.{items_of, members_of, list_json, object_json, bytes_json, text_json}
 use Rattle.trace_json.specs.EventJson.{text_pair_json, address_json, stack_json, pooled_text_json, pooled_stack_json}
-use Rattle.trace_json.specs.EventJson.{special_text, IsNumeralOf, IsFloatJson, IsValueJson, AreItemsJson, ArePairsJson}
-use Rattle.trace_json.specs.EventJson.{AreFieldsJson, event_json, IsEventJson}
+use Rattle.trace_json.specs.EventJson.{special_text, IsNumeralOf, IsFloatJson, IsValueJson, AreItemsJson}
+use Rattle.trace_json.specs.EventJson.{ArePairsJson, AreFieldsJson, event_json, IsEventJson}
 use Rattle.trace_json.specs.Laws.{IsShallow, RunIsShallow}
 
 along : (j i : Json) (n : ℕ) → j ≡ i → depth i ≤ n → depth j ≤ n
@@ -138,7 +138,8 @@ field_by :
     IsValueJson p v j → depth j ≤ 67
 field_by false p k t s v j h is = omega (arith, value_depth p k t 0 s v j h is)
 field_by true p k t s v j (inl none) is =
-    let null_is : j ≡ null = subst (λ (u : Value). IsValueJson p u j) none.1 is in along j null 67 null_is (omega arith)
+    let null_is : j ≡ null = subst (λ (u : Value). IsValueJson p u j) none.1 is in along j null 67 null_is
+    (omega arith)
 field_by true p k t s v j (inr some) is = omega (arith, value_depth p k t 0 some.1 v j some.5 is)
 
 fields_depth :
@@ -174,9 +175,17 @@ event_here :
     All IsShallow (event_of g p f)
 event_here k g p bytes (frames.Event id time vs) h =
     let w = h.0 in
-    let e : ShownEvent = record { id = id; name = w.shape.name; time = time; values = vs; entry = entry_of w; pools = p } in
+    let e : ShownEvent = record {
+      id = id;
+      name = w.shape.name;
+      time = time;
+      values = vs;
+      entry = entry_of w;
+      pools = p;
+    } in
     subst (λ (o : Option WireType). All IsShallow (event_by o p id time vs)) (sym h.1)
-    (All-cons IsShallow e [] (shown_depth k (types_of w.shape.fields) h.2.spelled e h.2.values_are) (All-nil IsShallow))
+    (All-cons IsShallow e [] (shown_depth k (types_of w.shape.fields) h.2.spelled e h.2.values_are)
+    (All-nil IsShallow))
 event_here k g p bytes f h = All-nil IsShallow
 
 run_shallow :

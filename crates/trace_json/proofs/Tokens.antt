@@ -1,6 +1,6 @@
 -- Tokens that are written one after another.
-use Rattle.std.proofs.Common.{◌≡◌, ℕ, ◌+◌, ◌<◌, ◌≤◌, length, take, get_or, List, [], ◌∷◌, ◌++◌, map as list_map, codes, Result, Ok, Err, OnOk}
-use Rattle.std.proofs.Common.{refl, sym, ap, ◌∙◌, append_assoc, append-nil}
+use Rattle.std.proofs.Common.{◌≡◌, ℕ, ◌+◌, ◌<◌, ◌≤◌, length, take, get_or, List, [], ◌∷◌, ◌++◌, map as list_map}
+use Rattle.std.proofs.Common.{codes, Result, Ok, Err, OnOk, refl, sym, ap, ◌∙◌, append_assoc, append-nil}
 use Rattle.std.specs.List.{flat_map}
 use Rattle.std.proofs.lemmas.List.{flat_map_more, take_more, take_all}
 use Rattle.std.proofs.lemmas.List.Folds.{flat_map-map}
@@ -8,7 +8,8 @@ use Rattle.json.specs.Json.{Json}
 use Rattle.json.specs.Token.{Token, begin_object, end_object, begin_array, end_array}
 use Rattle.json.specs.Tree.{json_tokens, items_tokens, members_tokens}
 use Rattle.trace_json.specs.EventJson.{items_of, members_of, list_json, object_json, pair_json, IsPairOf, event_json}
-use Rattle.trace_json.specs.Put.{Stands, StandAll, member_tokens, head_tokens}
+use Rattle.trace_json.specs.Put.{Stands}
+use Rattle.trace_json.specs.parts.Put.{StandAll, member_tokens, head_tokens}
 
 -- ---- lists and objects, by their parts
 

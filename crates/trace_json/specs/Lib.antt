@@ -2,3 +2,4 @@ pub mod EventJson
 pub mod Put
 pub mod Lines
 pub mod Laws
+pub mod parts

@@ -2,10 +2,10 @@
 
 ghost use Rattle.std.specs.Prelude.{◌≡◌, [], drop, get_or};
 ghost use Rattle.trace_values.specs.Refs.{ref_views};
-ghost use Rattle.dial9_trace_format.specs.Resolving.{as_pools};
+ghost use Rattle.dial9_trace_format.specs.parts.Resolving.{as_pools};
 ghost use Rattle.dial9_trace_format.specs.ShownEvents.{names_of};
 ghost use Rattle.trace_json.specs.EventJson.{AreFieldsJson};
-ghost use Rattle.trace_json.specs.Put.{PutsAll, member_tokens};
+ghost use Rattle.trace_json.specs.parts.Put.{PutsAll, member_tokens};
 
 use crate::value::put_value;
 use dial9_trace_format::decoder::RawEvent;

@@ -8,7 +8,8 @@ ghost use Rattle.json.specs.Tree.{json_tokens};
 ghost use Rattle.trace_values.specs.RawViews.{stack_view};
 ghost use Rattle.trace_json.specs.EventJson.{bytes_json, text_json, address_json, stack_json, id_json};
 ghost use Rattle.trace_json.specs.EventJson.{pooled_text_json, pooled_stack_json, special_text, IsFloatJson};
-ghost use Rattle.trace_json.specs.Put.{PutsTokens, Puts, PutsOne};
+ghost use Rattle.trace_json.specs.parts.Put.{PutsTokens, Puts};
+ghost use Rattle.trace_json.specs.Put.{PutsOne};
 
 use json::Writer;
 use std::alloc::{AllocError, Global};

@@ -6,9 +6,10 @@ ghost use Rattle.trace_values.specs.Flat.{flat_form};
 ghost use Rattle.trace_values.specs.Reading.{values_to_items, values_to_pairs};
 ghost use Rattle.trace_values.specs.Refs.{ref_view, ref_views, ref_pair_views};
 ghost use Rattle.trace_values.specs.Values.{list, map};
-ghost use Rattle.dial9_trace_format.specs.Resolving.{as_pools};
+ghost use Rattle.dial9_trace_format.specs.parts.Resolving.{as_pools};
 ghost use Rattle.trace_json.specs.EventJson.{IsValueJson, AreItemsJson, ArePairsJson};
-ghost use Rattle.trace_json.specs.Put.{PutsOne, PutsAll};
+ghost use Rattle.trace_json.specs.Put.{PutsOne};
+ghost use Rattle.trace_json.specs.parts.Put.{PutsAll};
 
 use crate::leaves::{put_bytes, put_float, put_pooled_stack, put_pooled_text, put_stack_ref};
 use crate::texts::put_texts;

@@ -1,6 +1,5 @@
 -- The depth of a list of values, by which functions over values that call themselves end.
-use Rattle.std.proofs.Common.{◌≡◌, ℕ, ◌<◌, ◌≤◌, max, List, [], ◌∷◌, length, get_or, sym, subst, arith}
-use Rattle.std.proofs.Common.{suc}
+use Rattle.std.proofs.Common.{◌≡◌, ℕ, ◌<◌, ◌≤◌, max, List, [], ◌∷◌, length, get_or, sym, subst, arith, suc}
 use denote.Param.Weighed.{most, at_most}
 use Rattle.trace_lines.specs.Holding.{AreBelow}
 

@@ -22,8 +22,8 @@ use Rattle.trace_lines.specs.Dumps.{kind_of, kind_of_form, IsDumpAs, item_lines,
 use Rattle.trace_lines.specs.declared.dump.DumpForm.{DumpForm}
 use Rattle.trace_lines.specs.declared.dump.DumpForm.TheVariants.{Frames}
 use Rattle.trace_lines.specs.declared.dump.Reader.{Reader}
-use Rattle.trace_lines.specs.Sent.{IsGoing, IsOnlyLine, AreStreamLines, IsRestOfDump, LastLineHere, TellsError}
-use Rattle.trace_lines.specs.Sent.{IsNextLine}
+use Rattle.trace_lines.specs.parts.Sent.{IsGoing, IsOnlyLine, AreStreamLines, IsRestOfDump, LastLineHere, TellsError}
+use Rattle.trace_lines.specs.parts.Sent.{IsNextLine}
 use Rattle.trace_lines.proofs.DumpsGoOn.{dump_after, dump_ends, dump_exists}
 
 -- the lines of frames, and then the rest of the dump, are the rest of the dump before them

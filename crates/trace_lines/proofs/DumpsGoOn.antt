@@ -19,7 +19,8 @@ use Rattle.trace_lines.specs.Dumps.{kind_of_form, item_lines, frame_lines, IsEnd
 pub lines_append :
     (form : DumpForm) (g mid : Grammar) (p : Pools) (here : List ℕ) (frames hs : List Frame) →
     IsRun (all_of_kind (kind_of_form form) frames) g here frames mid →
-    frame_lines form g p (frames ++ hs) ≡ frame_lines form g p frames ++ frame_lines form mid (pools_after p frames) hs
+    frame_lines form g p (frames ++ hs) ≡ frame_lines form g p frames
+    ++ frame_lines form mid (pools_after p frames) hs
 lines_append (Frames reader) g mid p here frames hs run =
     ap item_lines (items_append frames hs) ∙ flat_map-append (λ i. line (item_line i)) (items frames) (items hs)
 lines_append Events g mid p here frames hs run =

@@ -1,6 +1,5 @@
 -- What is told of a writer, over several sends of the parts of a dump.
-use Rattle.std.proofs.Common.{◌≡◌, ℕ, List, [], ◌∷◌, ◌++◌, take, drop, Result, Ok, Err, IsErr, sym, ap}
-use Rattle.std.proofs.Common.{subst, ◌∙◌}
+use Rattle.std.proofs.Common.{◌≡◌, ℕ, List, [], ◌∷◌, ◌++◌, take, drop, Result, Ok, Err, IsErr, sym, ap, subst, ◌∙◌}
 use Rattle.std.proofs.Common.{append_assoc, arith}
 use Rattle.std.proofs.lemmas.List.{append-nil, take-append-drop}
 use Rattle.std.specs.declared.io.ErrorKind.{ErrorKind}
@@ -8,7 +7,7 @@ use Rattle.trace_values.specs.Sending.{Account, TookOnly}
 use Rattle.trace_values.proofs.SendingLemmas.{TookOnly-none, TookOnly-join}
 use Rattle.trace_lines.specs.declared.dump.DumpForm.{DumpForm}
 use Rattle.trace_lines.specs.Dumps.{IsDumpAs, BeginsDumpAs, PrintsUpToFault}
-use Rattle.trace_lines.specs.Sent.{Sends}
+use Rattle.trace_lines.specs.parts.Sent.{Sends}
 
 -- what was written, and how a dump goes on with that of a later place
 pub record Sent (a b : Account) (dump next : ℕ → List ℕ → Type 0) : Type 0 where

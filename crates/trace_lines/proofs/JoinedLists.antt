@@ -1,10 +1,9 @@
 -- A list whose elements are parted by commas, as it is appended.
-use Rattle.std.proofs.Common.{◌≡◌, ℕ, ◌+◌, ◌<◌, List, [], ◌∷◌, ◌++◌, codes, length, take, get_or, sym, ap}
-use Rattle.std.proofs.Common.{◌∙◌}
+use Rattle.std.proofs.Common.{◌≡◌, ℕ, ◌+◌, ◌<◌, List, [], ◌∷◌, ◌++◌, codes, length, take, get_or, sym, ap, ◌∙◌}
 use Rattle.std.proofs.Common.{append_assoc, append-nil, arith, rules, suc}
 use Rattle.std.specs.List.{join_by}
 use Rattle.std.proofs.lemmas.List.{flat_map_more, take_more, length-take-le, get_or_default}
-use Rattle.trace_lines.specs.Lines.{comma_before}
+use Rattle.trace_lines.specs.parts.Lines.{comma_before}
 
 -- a comma stands before each but the first
 comma_later : {A : Type 0} (xs : List A) → comma_before (suc (length xs)) ≡ codes ","

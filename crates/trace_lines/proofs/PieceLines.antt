@@ -1,7 +1,6 @@
 -- The lines of an input that comes in pieces.
 use Rattle.std.proofs.Common.{◌≡◌, ◌≢◌, ◌⊎◌, ℕ, ◌+◌, ◌-◌, ◌<◌, ◌≤◌, List, [], ◌∷◌, ◌++◌, length, drop, Option, Some}
-use Rattle.std.proofs.Common.{zero, suc, None, refl, sym, ap, subst, ◌∙◌, append-nil, append_assoc}
-use Rattle.std.proofs.Common.{arith, inl, inr}
+use Rattle.std.proofs.Common.{zero, suc, None, refl, sym, ap, subst, ◌∙◌, append-nil, append_assoc, arith, inl, inr}
 use Rattle.std.proofs.lemmas.List.{length-append}
 use Rattle.trace_values.specs.Number.{AreBytes}
 use Rattle.trace_values.specs.Values.{owned_reader}
@@ -20,7 +19,7 @@ use Rattle.trace_lines.specs.Lines.{line, first_line, whole_line, stopped_line, 
 use Rattle.trace_lines.specs.declared.dump.DumpForm.TheVariants.{Frames}
 use Rattle.trace_lines.specs.declared.dump.Reader.TheVariants.{Owned}
 use Rattle.trace_lines.specs.Dumps.{IsDumpFrom, IsDumpAs, item_lines}
-use Rattle.trace_lines.specs.PieceDumps.{IsLeftBy, IsLeft, LinesCome, LinesEnd, IsWaiting}
+use Rattle.trace_lines.specs.parts.PieceDumps.{IsLeftBy, IsLeft, LinesCome, LinesEnd, IsWaiting}
 use Rattle.trace_lines.proofs.DumpsGoOn.{dump_after, dump_ends, dump_exists}
 
 -- ---- the header
@@ -94,7 +93,8 @@ after_header bytes v s [] rest end last l =
     (at_once owned_reader empty bytes rest end last l).2 (begins_header bytes v s) (header_steps v))
 after_header bytes v s (f ∷ fs) rest end last l =
     let h = uncons owned_reader empty bytes f fs rest end last l in
-    let same = Begins-unique owned_reader empty bytes f (Header v) h.after s.rest h.begins (begins_header bytes v s) in
+    let same = Begins-unique owned_reader empty bytes f (Header v) h.after s.rest h.begins
+    (begins_header bytes v s) in
     let stepped : Some h.next ≡ Some empty = sym h.stepped ∙ ap (step empty) same.0 ∙ header_steps v in
     let next : h.next ≡ empty = cc in
     let there : h.after ≡ drop header_length bytes = same.1 ∙ sym (after_start bytes v s) in
@@ -191,7 +191,8 @@ known_come s v d frames e g more status rest x =
     subst (λ (p : Pools). IsDumpFrom (Frames Owned) d.grammar p (s.position + length (s.kept ++ more)) (left ++ more)
     status rest) g.core.pools sized in
     left_by s (Some v) more status (item_lines (items frames) ++ rest) e
-    (subst (λ (t : List ℕ). IsDumpFrom (Frames Owned) s.grammar s.pools (s.position + length (s.kept ++ more)) t status
+    (subst (λ (t : List ℕ). IsDumpFrom (Frames Owned) s.grammar s.pools (s.position + length (s.kept ++ more)) t
+    status
     (item_lines (items frames) ++ rest)) bytes
     (dump_after (Frames Owned) s.grammar s.pools here frames g.core.run pooled))
 
@@ -216,7 +217,8 @@ known_conflict s v m d frames id e g none c =
         let b = c.core.begins in
         let left = rest_of m in
         let after = rest_of d in
-        let longer : Begins owned_reader m.grammar (left ++ more) (Schema id.0 c.core.shape) (after ++ more) = record {
+        let longer : Begins owned_reader m.grammar (left ++ more) (Schema id.0 c.core.shape) (after ++ more) =
+        record {
           here = b.here;
           parts = ap (λ (t : List ℕ). t ++ more) b.parts ∙ append_assoc b.here after more;
           frame = b.frame;
@@ -243,7 +245,8 @@ first_comes s v e (place, grammar, pools) header more status rest d =
     let at_front : IsDumpFrom (Frames Owned) empty no_pools (length bytes) bytes status rest =
     subst (λ (n : ℕ). IsDumpFrom (Frames Owned) empty no_pools n bytes status rest) placed
     (subst (λ (p : Pools). IsDumpFrom (Frames Owned) empty p (s.position + length bytes) bytes status rest) pools
-    (subst (λ (g : Grammar). IsDumpFrom (Frames Owned) g s.pools (s.position + length bytes) bytes status rest) grammar
+    (subst (λ (g : Grammar). IsDumpFrom (Frames Owned) g s.pools (s.position + length bytes) bytes status rest)
+    grammar
     d)) in
     left_by s None more status (line (first_line v) ++ rest) e
     (stream_of bytes v (longer_start s.kept more v header) status rest at_front)

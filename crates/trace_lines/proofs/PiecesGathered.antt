@@ -10,8 +10,8 @@ use Rattle.dial9_trace_format.proofs.PullingLemmas.{pushed}
 use Rattle.trace_lines.specs.Dumps.{IsDumpFrom, IsDumpAs}
 use Rattle.trace_lines.specs.declared.dump.DumpForm.TheVariants.{Frames}
 use Rattle.trace_lines.specs.declared.dump.Reader.TheVariants.{Owned}
-use Rattle.trace_lines.specs.PieceDumps.{IsLeftBy, IsLeft, LinesCome, LinesEnd, LinesBegin, IsFed}
-use Rattle.trace_lines.specs.PieceDumps.{AreNextLines, ArePieceLines, GathersPiece, SendsPiece}
+use Rattle.trace_lines.specs.parts.PieceDumps.{IsLeftBy, IsLeft, LinesCome, LinesEnd, LinesBegin, IsFed}
+use Rattle.trace_lines.specs.parts.PieceDumps.{AreNextLines, ArePieceLines, GathersPiece, SendsPiece}
 use Rattle.trace_lines.specs.declared.pieces.Next.{Next}
 use Rattle.trace_lines.specs.declared.pieces.Next.TheVariants.{Line, Wait, End}
 use Rattle.trace_lines.proofs.PieceLines.{come_further, end_further, left_exists, both_fit}
@@ -44,7 +44,8 @@ pushed_fed old new piece f fits is = subst IsFed (sym is) (record {
 pub gathered_after :
     {E : Type 0} (old mid new : FeedState) (piece lines : List ℕ) (r : Result (Option ℕ) E) → mid ≡ pushed old piece →
     GathersPiece mid [] new lines r → GathersPiece old piece new lines r
-gathered_after {E = E} old mid new piece lines r is g = by_result r (subst (λ (m : FeedState). GathersPiece m [] new lines r)
+gathered_after {E = E} old mid new piece lines r is g = by_result r
+    (subst (λ (m : FeedState). GathersPiece m [] new lines r)
     is g)
   where
     joined : piece ++ [] ≡ piece
@@ -85,7 +86,10 @@ pub record Gathered (old now : FeedState) (held : List ℕ) : Type 0 where
 
 -- before the first frame no lines came
 pub none_yet : (old : FeedState) (held : List ℕ) → IsFed old → held ≡ [] → Gathered old old held
-none_yet old held f none = record { come = subst (LinesCome old [] old) (sym none) (λ more status rest d. d); fed = f }
+none_yet old held f none = record {
+  come = subst (LinesCome old [] old) (sym none) (λ more status rest d. d);
+  fed = f;
+}
 
 -- the lines so far are a front
 pub front_so_far : (old now : FeedState) (held : List ℕ) → Gathered old now held → LinesBegin old [] held
@@ -151,7 +155,8 @@ refused_after old new piece lines (Err e) i begins = begins
 
 -- a front of lines that come first comes first
 front_begins :
-    (old : FeedState) (piece lines : List ℕ) (n : ℕ) → LinesBegin old piece lines → LinesBegin old piece (take n lines)
+    (old : FeedState) (piece lines : List ℕ) (n : ℕ) → LinesBegin old piece lines
+    → LinesBegin old piece (take n lines)
 front_begins old piece lines n begins more fits =
     let (status, following, d) = begins more fits in
     let whole = ap (λ (t : List ℕ). t ++ following) (sym (take-append-drop n lines))

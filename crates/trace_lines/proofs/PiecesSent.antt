@@ -1,6 +1,6 @@
 -- What was sent of an input so far, piece by piece.
-use Rattle.std.proofs.Common.{◌≡◌, ℕ, ◌<◌, List, [], ◌++◌, length, take, Option, Some, None, Result, Ok}
-use Rattle.std.proofs.Common.{IsErr, ◌∷◌, Err, refl, sym, ap, subst, ◌∙◌, append-nil, append_assoc, arith, false}
+use Rattle.std.proofs.Common.{◌≡◌, ℕ, ◌<◌, List, [], ◌++◌, length, take, Option, Some, None, Result, Ok, IsErr, ◌∷◌}
+use Rattle.std.proofs.Common.{Err, refl, sym, ap, subst, ◌∙◌, append-nil, append_assoc, arith, false}
 use Rattle.std.specs.Io.KnownBytes.{Consumes, Keeps, IsAtEnd}
 use Rattle.std.specs.declared.io.ErrorKind.{ErrorKind}
 use Rattle.trace_values.specs.Number.{AreBytes}
@@ -14,10 +14,10 @@ use Rattle.trace_lines.specs.declared.dump.DumpForm.TheVariants.{Frames}
 use Rattle.trace_lines.specs.declared.dump.Reader.TheVariants.{Owned}
 use Rattle.trace_lines.proofs.DumpStatuses.{dump_status}
 use Rattle.trace_lines.proofs.DumpsSentInParts.{front_unsettled}
-use Rattle.trace_lines.specs.Sent.{Sends}
-use Rattle.trace_lines.specs.PieceDumps.{DumpsFrontOfBytes, IsDumpRead, SendsRead, IsLeft, LinesCome, LinesEnd}
-use Rattle.trace_lines.specs.PieceDumps.{LinesBegin}
-use Rattle.trace_lines.specs.PieceDumps.{IsWaiting, ArePieceLines, SendsPiece}
+use Rattle.trace_lines.specs.parts.Sent.{Sends}
+use Rattle.trace_lines.specs.PieceDumps.{DumpsFrontOfBytes}
+use Rattle.trace_lines.specs.parts.PieceDumps.{IsDumpRead, SendsRead, IsLeft, LinesCome, LinesEnd, LinesBegin}
+use Rattle.trace_lines.specs.parts.PieceDumps.{IsWaiting, ArePieceLines, SendsPiece}
 use Rattle.trace_lines.proofs.PieceLines.{nothing_comes, come_further, end_further, left_exists, both_fit}
 
 -- ---- what a reader tells

@@ -20,7 +20,8 @@ use Rattle.dial9_trace_format.proofs.DecoderRuns.{goes_position, next_goes, item
 use Rattle.dial9_trace_format.proofs.PullingLemmas.{known_pulled, same_failure}
 use Rattle.trace_lines.specs.Lines.{line, item_line, first_line, no_header_line, conflict_line}
 use Rattle.trace_lines.specs.Dumps.{item_lines}
-use Rattle.trace_lines.specs.PieceDumps.{LinesCome, LinesEnd, IsFed, IsWaiting, AppendsEnd, AppendsFirst, PulledLines, AreNextLines}
+use Rattle.trace_lines.specs.parts.PieceDumps.{LinesCome, LinesEnd, IsFed, IsWaiting, AppendsEnd, AppendsFirst}
+use Rattle.trace_lines.specs.parts.PieceDumps.{PulledLines, AreNextLines}
 use Rattle.trace_lines.specs.declared.pieces.Next.{Next}
 use Rattle.trace_lines.specs.declared.pieces.Next.TheVariants.{Line, Wait, End}
 use Rattle.trace_lines.proofs.PieceLines.{come_further, end_further, known_come, known_skips, known_conflict}
@@ -228,10 +229,12 @@ next_by s new (Some v) frame before text next e f p first t =
     (subst (λ (b : List ℕ). PulledLines frame b text next) none t)
 next_by s new None frame before text next e f p first t = by_case (p.next f.works)
   where
-    by_case : PullsFew s new frame ⊎ (PullsNoHeader s new frame ⊎ PullsNext s new frame) → AreNextLines s new text next
+    by_case : PullsFew s new frame ⊎ (PullsNoHeader s new frame ⊎ PullsNext s new frame)
+        → AreNextLines s new text next
     by_case (inl few) =
         let same = few.same in
-        let none = part_of_unknown s.version new.version before e (ap (λ (x : FeedState). x.version) same ∙ e) first in
+        let none = part_of_unknown s.version new.version before e (ap (λ (x : FeedState). x.version) same ∙ e)
+        first in
         subst (λ (n : FeedState). AreNextLines s n text next) (sym same)
         (waits_for_header s frame text next f (subst (λ (n : FeedState). PullsFew s n frame) same few)
         (subst (λ (b : List ℕ). PulledLines frame b text next) none t))

@@ -17,8 +17,8 @@ use Rattle.trace_lines.specs.declared.dump.DumpForm.TheVariants.{Frames, Events}
 use Rattle.trace_lines.specs.declared.dump.Reader.{Reader}
 use Rattle.trace_lines.specs.declared.dump.Reader.TheVariants.{Owned, Borrowed}
 
--- what the program ends with: where the trace is whole, where no header stands, where it stops inside, at a conflict of
--- schemas, and where memory, the input or the output failed
+-- what the program ends with: where the trace is whole, where no header stands, where it stops inside, at a conflict
+-- of schemas, and where memory, the input or the output failed
 abbrev pub whole_status : ℕ
 whole_status = 0
 
@@ -54,8 +54,8 @@ abbrev pub frame_lines : DumpForm → Grammar → Pools → List Frame → List 
 frame_lines (Frames reader) g p frames = item_lines (items frames)
 frame_lines Events g p frames = event_lines (events_of g p frames)
 
--- The last line and the status, where the longest run over bytes of a size ends before the rest. A place is told by the
--- bytes before it: before the rest, or after the schema that differs from what its wire id stands for.
+-- The last line and the status, where the longest run over bytes of a size ends before the rest. A place is told by
+-- the bytes before it: before the rest, or after the schema that differs from what its wire id stands for.
 abbrev pub IsEnd : Kind → ℕ → Grammar → List ℕ → Ending → ℕ → List ℕ → Type 0
 IsEnd k size last rest Whole status text = (status ≡ whole_status) × (text ≡ whole_line)
 IsEnd k size last rest Stopped status text = (status ≡ stopped_status) × (text ≡ stopped_line (size - length rest))
@@ -64,8 +64,8 @@ IsEnd k size last rest Conflict status text =
     × (status ≡ conflict_status)
     × (text ≡ conflict_line (size - length after) id)
 
--- the lines after the first, of bytes that end an input of a size, in a state and with pools: those of the longest run
--- of the reader, and of its end
+-- the lines after the first, of bytes that end an input of a size, in a state and with pools: those of the longest
+-- run of the reader, and of its end
 pub record IsDumpFrom (form : DumpForm) (g : Grammar) (p : Pools) (size : ℕ) (bytes : List ℕ) (status : ℕ)
     (text : List ℕ) : Type 0 where
   pub frames : List Frame

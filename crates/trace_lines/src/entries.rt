@@ -12,8 +12,8 @@ use std::alloc::AllocError;
 use trace_wire::codec::{PoolEntry, StackPoolEntry};
 use trace_wire::schema::FieldAnnotation;
 
-/// Appends an entry of a string pool after a space: its id and its bytes, which need not be text. `AllocError` where a
-/// growth was refused.
+/// Appends an entry of a string pool after a space: its id and its bytes, which need not be text. `AllocError` where
+/// a growth was refused.
 #[tactic(auto, unfolding(crate::specs::Lines::string_entry_text))]
 pub fn push_string_entry(out: &mut String, entry: &PoolEntry) -> Result<(), AllocError>
     ensures { AppendsText (string_entry_text (string_entry_of entry.now)) out.old out.new result }
@@ -33,8 +33,8 @@ pub fn push_stack_entry(out: &mut String, entry: &StackPoolEntry) -> Result<(), 
     push_addresses(out, &entry.frames)
 }
 
-/// Appends an annotation after a space: the index of its field, its key and its value. `AllocError` where a growth was
-/// refused.
+/// Appends an annotation after a space: the index of its field, its key and its value. `AllocError` where a growth
+/// was refused.
 #[tactic(auto, unfolding(crate::specs::Lines::annotation_text))]
 pub fn push_annotation(out: &mut String, annotation: &FieldAnnotation) -> Result<(), AllocError>
     ensures { AppendsText (annotation_text annotation.now) out.old out.new result }

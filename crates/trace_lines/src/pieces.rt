@@ -3,10 +3,11 @@
 ghost use Rattle.std.specs.Prelude.{◌≡◌, ◌≢◌, ◌≤◌, [], false, IfOk, OnOk, string_bytes};
 ghost use Rattle.trace_values.specs.Sending.{IsSettled};
 ghost use Rattle.trace_lines.specs.Dumps.{failed_status};
-ghost use Rattle.trace_lines.specs.PieceDumps.{DumpsFrontOfBytes, IsFed, IsWaiting, AreNextLines, GathersPiece};
+ghost use Rattle.trace_lines.specs.PieceDumps.{DumpsFrontOfBytes};
+ghost use Rattle.trace_lines.specs.parts.PieceDumps.{IsFed, IsWaiting, AreNextLines, GathersPiece, IsLeft};
+ghost use Rattle.trace_lines.specs.parts.PieceDumps.{AppendsEnd, AppendsFirst, PulledLines, SendsPiece, SendsRead};
 ghost use Rattle.dial9_trace_format.specs.DecodedFrames.{item_of, next_as};
-ghost use Rattle.trace_lines.specs.PieceDumps.{IsLeft, AppendsEnd, AppendsFirst, PulledLines, SendsPiece, SendsRead};
-ghost use Rattle.trace_lines.specs.Sent.{Sends};
+ghost use Rattle.trace_lines.specs.parts.Sent.{Sends};
 ghost use Rattle.trace_lines.specs.Program.{DumpsAll};
 
 use crate::dump::{CONFLICT, DumpError, FAILED, NO_HEADER, STOPPED, WHOLE};
@@ -38,9 +39,9 @@ enum Next {
 
 /// Writes the lines of all that a reader has left, as `dump` does those of the same bytes, and answers the status
 /// (docs/FORMAT.md, "Dumps"). It reads at most 4,096 bytes at once, and sends the lines of all frames that are whole
-/// then before it reads more. After a conflict, and where no header stands, it reads no more. `FAILED` comes only where
-/// a growth was refused, where the input could not be read to its end, and where the writer failed: then a front of the
-/// lines was written, with no fault or one, and nothing was handed on or tried again.
+/// then before it reads more. After a conflict, and where no header stands, it reads no more. `FAILED` comes only
+/// where a growth was refused, where the input could not be read to its end, and where the writer failed: then a
+/// front of the lines was written, with no fault or one, and nothing was handed on or tried again.
 pub fn dump_pieces<R: Read, W: TraceWrite>(alloc: Global, input: &mut R, out: &mut W) -> u8
     ensures lines { result ≢ failed_status
         → DumpsAll false (R.remaining input.old) (W.told out.old) (W.told out.new) result }
@@ -128,7 +129,8 @@ fn send_piece<W: TraceWrite>(
     out: &mut W,
 ) -> Result<Option<u8>, DumpError>
     requires { IsWaiting decoder.old }
-    ensures { SendsPiece (W.told out.old) (W.told out.new) decoder.old piece.now decoder.new result }
+    ensures { SendsPiece (W.told out.old) (W.told out.new) decoder.old piece.now decoder.new
+        result }
 {
     let mut held = String::new(alloc);
     let gathered = gather_piece(alloc, decoder, piece, &mut held);
@@ -176,8 +178,8 @@ fn gather_kept(
     }
 }
 
-// Appends the line of the next frame, if one is whole, and before it the first line, where the header was read with it;
-// or the last line.
+// Appends the line of the next frame, if one is whole, and before it the first line, where the header was read with
+// it; or the last line.
 fn push_next_lines(line: &mut String, decoder: &mut FeedDecoder) -> Result<Next, AllocError>
     requires fed { IsFed decoder.old }
     requires empty { string_bytes line.old ≡ [] }
@@ -195,7 +197,8 @@ fn push_first_part(
     before: Option<u8>,
     after: Option<u8>,
 ) -> Result<(), AllocError>
-    ensures { OnOk result (AppendsFirst before after (string_bytes line.old) (string_bytes line.new)) }
+    ensures { OnOk result (AppendsFirst before after (string_bytes line.old)
+        (string_bytes line.new)) }
 {
     match (before, after) {
         (None, Some(version)) => push_first_line(line, version),

@@ -6,7 +6,8 @@ ghost use Rattle.std.specs.Process.{exit_status};
 ghost use Rattle.trace_values.specs.Sending.{IsSettled};
 ghost use Rattle.trace_lines.specs.Dumps.{failed_status};
 ghost use Rattle.trace_lines.specs.PieceDumps.{DumpsFrontOfBytes};
-ghost use Rattle.trace_lines.specs.Program.{AsksFor, WordsAskFor, resolves, DumpsAll, DumpsFront, message_for};
+ghost use Rattle.trace_lines.specs.parts.Program.{AsksFor, WordsAskFor, resolves, DumpsFront, message_for};
+ghost use Rattle.trace_lines.specs.Program.{DumpsAll};
 
 use crate::dump::{FAILED, dump};
 use crate::pieces::dump_pieces;
@@ -70,10 +71,10 @@ fn task_of_words(words: &[String]) -> Task
     }
 }
 
-/// Does what is asked for, and answers the status: that of the dump of all that the input has left. The dump of frames
-/// is written as the input is read, that of events once all was read. `FAILED` where no dump is asked for, where the
-/// input could not be read to its end, where a growth was refused, and where the writer failed: then nothing was
-/// written, or a front of the dump.
+/// Does what is asked for, and answers the status: that of the dump of all that the input has left. The dump of
+/// frames is written as the input is read, that of events once all was read. `FAILED` where no dump is asked for,
+/// where the input could not be read to its end, where a growth was refused, and where the writer failed: then
+/// nothing was written, or a front of the dump.
 pub fn carry_out<R: Read, W: TraceWrite>(
     alloc: Global,
     task: Task,

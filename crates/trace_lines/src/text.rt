@@ -5,8 +5,8 @@ ghost use Rattle.std.specs.Prelude.{codes};
 ghost use Rattle.std.specs.List.{join_by};
 ghost use Rattle.trace_values.specs.AddressTexts.{address_text};
 ghost use Rattle.trace_lines.specs.Appending.{AppendsText};
-ghost use Rattle.trace_lines.specs.Lines.{escaped_byte, quoted_byte, quoted, address_list, comma_before};
-ghost use Rattle.trace_lines.specs.Lines.{sixteen_digits};
+ghost use Rattle.trace_lines.specs.Lines.{escaped_byte, quoted_byte, quoted, address_list, sixteen_digits};
+ghost use Rattle.trace_lines.specs.parts.Lines.{comma_before};
 
 use std::alloc::AllocError;
 

@@ -6,7 +6,7 @@ ghost use Rattle.std.specs.List.{join_by};
 ghost use Rattle.trace_values.specs.Flat.{flat_form};
 ghost use Rattle.trace_values.specs.Reading.{values_to_items, values_to_pairs};
 ghost use Rattle.trace_values.specs.Values.{Value, list, map};
-ghost use Rattle.trace_values.specs.View.{view};
+ghost use Rattle.trace_values.specs.ValueViews.{view};
 ghost use Rattle.trace_values.specs.declared.types.field_value.FieldValue.{size-FieldValue};
 ghost use Rattle.trace_lines.specs.Appending.{AppendsText};
 ghost use Rattle.trace_lines.specs.Holding.{Holds};
@@ -79,8 +79,8 @@ impl LineValue for FieldValue {
     }
 }
 
-/// Appends a value: the name of its kind, and what it holds (docs/FORMAT.md, "Dumps"). `AllocError` where a growth was
-/// refused.
+/// Appends a value: the name of its kind, and what it holds (docs/FORMAT.md, "Dumps"). `AllocError` where a growth
+/// was refused.
 pub fn push_value(out: &mut String, value: &FieldValue) -> Result<(), AllocError>
     ensures { AppendsText (value_text (view value.now)) out.old out.new result }
 {

@@ -4,7 +4,7 @@ use Rattle.std.proofs.Common.{ap, sym, ◌∙◌, arith}
 use Rattle.std.proofs.lemmas.Bool.{ltb-true}
 use Rattle.std.proofs.lemmas.List.{at_drop_all, drop_more, map-append, take-append-drop}
 use Rattle.trace_values.specs.declared.types.field_value.FieldValue.{FieldValue}
-use Rattle.trace_values.specs.View.{view, views}
+use Rattle.trace_values.specs.ValueViews.{view, views}
 
 -- the number of an index, and those after it; there are at least so many
 pub number_more :

@@ -1,7 +1,7 @@
 -- The head of a file, up to its first empty line.
-use Rattle.std.proofs.Common.{◌≡◌, ◌≢◌, ℕ, zero, suc, ◌+◌, ◌≤◌, ◌<◌, ◌==◌, Bool, true, false, cond, List, [], ◌∷◌, ◌++◌}
-use Rattle.std.proofs.Common.{length, get_or, take, drop, Bor, MatchOption, IfSome, Option, Some, None, codes, refl}
-use Rattle.std.proofs.Common.{sym, ap, ◌∙◌, arith}
+use Rattle.std.proofs.Common.{◌≡◌, ◌≢◌, ℕ, zero, suc, ◌+◌, ◌≤◌, ◌<◌, ◌==◌, Bool, true, false, cond, List, [], ◌∷◌}
+use Rattle.std.proofs.Common.{◌++◌, length, get_or, take, drop, Bor, MatchOption, IfSome, Option, Some, None, codes}
+use Rattle.std.proofs.Common.{refl, sym, ap, ◌∙◌, arith}
 use Rattle.std.specs.List.{AllByRecursion, onto_first}
 use Rattle.std.specs.Str.Pattern.{FindsText}
 use Rattle.std.proofs.lemmas.Bool.Decides.{Decides-eqb}

@@ -29,7 +29,8 @@ SayEach-append :
 SayEach-append [] [] line call each says = (says, tt)
 SayEach-append [] (c ∷ calls) line call each says = absurd each
 SayEach-append (l ∷ lines) [] line call each says = absurd each
-SayEach-append (l ∷ lines) (c ∷ calls) line call each says = (each.0, SayEach-append lines calls line call each.1 says)
+SayEach-append (l ∷ lines) (c ∷ calls) line call each says =
+    (each.0, SayEach-append lines calls line call each.1 says)
 
 -- the lines of the text say the calls, up to those of the rest
 pub record SayFront (text : List ℕ) (calls : List ScriptCall) (rest : List ℕ) : Type 0 where
@@ -47,7 +48,8 @@ pub one_more :
 one_more text rest more line calls gained before first gains = record {
   front = before.front ++ line ∷ [];
   said =
-      let said : SayEach (before.front ++ line ∷ []) (calls ++ gains.call ∷ []) = SayEach-append before.front calls line
+      let said : SayEach (before.front ++ line ∷ []) (calls ++ gains.call ∷ []) = SayEach-append before.front calls
+      line
       gains.call before.said gains.says in
       subst (λ (c : List ScriptCall). SayEach (before.front ++ line ∷ []) c) (sym gains.gained) said;
   parts =
@@ -57,7 +59,8 @@ one_more text rest more line calls gained before first gains = record {
 
 -- the last line
 pub the_last :
-    (text rest line : List ℕ) (calls gained : List ScriptCall) → SayFront text calls rest → IsFirstLine rest line None →
+    (text rest line : List ℕ) (calls gained : List ScriptCall) → SayFront text calls rest → IsFirstLine rest line None
+    →
     GainsCall calls gained line → IsScript gained text
 unfolding IsScript
 the_last text rest line calls gained before first gains =
@@ -131,7 +134,8 @@ feed_at text at inside here before =
     (λ _. (Decides-eqb (get_or text at 0) 10).1 here) in
     let near : position_or_len (λ b. b == 10) text < length text = rw place inside in
     let parts = slice_split_first (λ b. b == 10) text 0 near in
-    let whole : take (length text - (at + 1)) (drop (at + 1) text) ≡ drop (at + 1) text = grind (arith, common_steps) in
+    let whole : take (length text - (at + 1)) (drop (at + 1) text)
+    ≡ drop (at + 1) text = grind (arith, common_steps) in
     rw whole (rw place at parts)
 
 -- no line feed

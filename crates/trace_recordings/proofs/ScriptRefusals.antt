@@ -156,7 +156,8 @@ no_player text plays.Memory r = tt
 
 -- the player had no memory for a call
 pub no_memory :
-    (defined : Defined) (line : ℕ) (call : ScriptCall) (e : PlayError) → IsOfPlayer e → RefusesUnder defined line call e
+    (defined : Defined) (line : ℕ) (call : ScriptCall) (e : PlayError) → IsOfPlayer e
+    → RefusesUnder defined line call e
 no_memory defined line call (plays.Script error) r = absurd r
 no_memory defined line call (plays.LeftOut other word) r = absurd r
 no_memory defined line call (plays.Unknown other handle) r = absurd r

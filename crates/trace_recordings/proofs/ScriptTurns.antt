@@ -14,7 +14,7 @@ use Rattle.trace_writer.specs.State.{EncoderView, WriterState}
 use Rattle.trace_writer.specs.Resume.{IsResumed}
 use Rattle.dial9_trace_format.specs.declared.failure.Failure.{Failure}
 use Rattle.dial9_trace_format.specs.Decoding.{DecoderState, DecodesAll}
-use Rattle.dial9_trace_format.specs.Decodings.{IsOpened}
+use Rattle.dial9_trace_format.specs.WrittenTraces.{IsOpened}
 use Rattle.trace_writer.specs.Calls.{Action, fresh_state, header}
 use Rattle.trace_writer.specs.CallLists.{Plays}
 use Rattle.trace_writer.specs.Headline.{FreshHeadline}
@@ -67,14 +67,16 @@ reset_turn (Err e) p call reply mid q is resets replied = tt
 
 -- what a decoder that has given all becomes, by whether it has failed
 becomes :
-    (trace : List ℕ) (last : DecoderState) (o : Option Failure) (r : Result (EncoderView (Vec ℕ Global)) EncodeError) →
+    (trace : List ℕ) (last : DecoderState) (o : Option Failure) (r : Result (EncoderView (Vec ℕ Global)) EncodeError)
+    →
     HasReadAll trace last → last.failure ≡ o →
     IfOk r (λ e. IsResumed e.state last.grammar last.pools) → IfSome o (λ f. r ≡ Err errors.Failed) →
     (o ≡ None → IfErr r (λ e. e ≡ errors.OutOfMemory)) → AnswersResumption trace r
 becomes trace last None (Ok e) read is resumed failed refused =
     record { last = last; read = read; works = is; resumed = resumed }
 becomes trace last (Some f) (Ok e) read is resumed failed refused = absurd (cc)
-becomes trace last None (Err e) read is resumed failed refused = subst (RefusesResumption trace) (sym (refused refl)) tt
+becomes trace last None (Err e) read is resumed failed refused = subst (RefusesResumption trace)
+    (sym (refused refl)) tt
 becomes trace last (Some f) (Err e) read is resumed failed refused =
     let has_failed : IsSome last.failure = rw is refl in
     let why : e ≡ errors.Failed = cc in
@@ -88,7 +90,8 @@ pub resumption_answers :
     IfOk r (λ e. IsResumed e.state last.grammar last.pools) → IfSome last.failure (λ f. r ≡ Err errors.Failed) →
     (last.failure ≡ None → IfErr r (λ e. e ≡ errors.OutOfMemory)) → AnswersResumption trace r
 resumption_answers trace first last shown r opened all resumed failed refused =
-    becomes trace last last.failure r (record { first = first; opened = opened; shown = shown; all = all }) refl resumed
+    becomes trace last last.failure r (record { first = first; opened = opened; shown = shown; all = all }) refl
+    resumed
     failed refused
 
 -- the refusal, of the output
@@ -133,7 +136,8 @@ pub TurnsEach-append :
     (p q r : Playing) (calls : List ScriptCall) (call : ScriptCall) → TurnsEach p calls q → Turns q call r →
     TurnsEach p (calls ++ call ∷ []) r
 TurnsEach-append p q r [] call each turn = (r, subst (λ (x : Playing). Turns x call r) each turn, refl)
-TurnsEach-append p q r (c ∷ calls) call each turn = (each.0, each.1, TurnsEach-append each.0 q r calls call each.2 turn)
+TurnsEach-append p q r (c ∷ calls) call each turn =
+    (each.0, each.1, TurnsEach-append each.0 q r calls call each.2 turn)
 
 -- what an encoder sends from p to q, where nothing is put past it
 pub record Written (p q : Playing) : Type 0 where
@@ -173,8 +177,10 @@ typed :
 typed p mid q handle slot definition defines replied = replied ∙ ap (with_reply Silent) defines.1
 
 -- before it, a turn
-turn : (p : Playing) (call : ScriptCall) (q r : Playing) → IsOfEncoder call → Turns p call q → Written q r → Written p r
-turn p Nothing q r plain h later = quiet p q r (ap (λ (x : Playing). x.state) h) (ap (λ (x : Playing). x.bytes) h) later
+turn : (p : Playing) (call : ScriptCall) (q r : Playing) → IsOfEncoder call → Turns p call q → Written q r
+    → Written p r
+turn p Nothing q r plain h later = quiet p q r (ap (λ (x : Playing). x.state) h) (ap (λ (x : Playing). x.bytes) h)
+    later
 turn p (Define handle definition) q r plain h later =
     quiet p q r (ap (λ (x : Playing). x.state) h) (ap (λ (x : Playing). x.bytes) h) later
 turn p (Register handle) q r plain h later = asked p (Register handle) q r h later

@@ -8,8 +8,8 @@ use Rattle.trace_values.specs.Values.{borrowed}
 use Rattle.trace_values.proofs.FixedWidths.{AreBytes-right}
 use Rattle.trace_wire.specs.Frames.{Grammar, empty, Frame, Schema}
 use Rattle.trace_wire.specs.Runs.{Ending, Whole, Stopped, Conflict, no_pools}
-use Rattle.dial9_trace_format.specs.Decoding.{DecoderState, StartsWith, new_decoder, rest_of, Goes, Conflicts, FailsBy}
-use Rattle.dial9_trace_format.specs.Decoding.{error_of}
+use Rattle.dial9_trace_format.specs.Decoding.{DecoderState, StartsWith, new_decoder, rest_of, Goes, Conflicts}
+use Rattle.dial9_trace_format.specs.Decoding.{FailsBy, error_of}
 use Rattle.dial9_trace_format.specs.ShownEvents.{ShownEvent}
 use Rattle.dial9_trace_format.specs.EventCauses.{CauseAt}
 use Rattle.dial9_trace_format.specs.Sinks.{Takes, visiting, events_of, TakesRun, HasCause, RunsSink, never_refused}
@@ -78,7 +78,8 @@ ends_whole input version new frames inside g done = record {
 }
 
 ends_stopped :
-    (input : List ℕ) (version : ℕ) (mid new : DecoderState) (e : DecodeError) (frames : List Frame) → 5 ≤ length input →
+    (input : List ℕ) (version : ℕ) (mid new : DecoderState) (e : DecodeError) (frames : List Frame) → 5 ≤ length input
+    →
     AreBytes (drop 5 input) → Goes borrowed (new_decoder input version) mid frames → HasCause mid new e →
     EndsAt input frames Stopped new.position
 ends_stopped input version mid new e frames inside fits g f =
@@ -101,7 +102,8 @@ ends_stopped input version mid new e frames inside fits g f =
     subst (λ (d : DecoderState). EndsAt input frames Stopped d.position) (sym f.same) at
 
 ends_conflict :
-    (input : List ℕ) (version : ℕ) (mid new : DecoderState) (id : WireTypeId) (frames : List Frame) → 5 ≤ length input →
+    (input : List ℕ) (version : ℕ) (mid new : DecoderState) (id : WireTypeId) (frames : List Frame) → 5 ≤ length input
+    →
     Goes borrowed (new_decoder input version) mid frames → Conflicts borrowed mid new id →
     EndsAt input frames Conflict new.position
 ends_conflict input version mid new id frames inside g x =

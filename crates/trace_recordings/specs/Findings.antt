@@ -28,8 +28,8 @@ ShowsDump form trace lines (LeftOut name) = ⊥
 ShowsDump form trace lines (Compared differences) = (status : ℕ) × (text : List ℕ) × IsDumpAs form trace status text
     × ((differences.items ≡ []) ↔ (ended lines ≡ text))
 
--- the script was played, and no difference is told exactly where the trace and the recorded replies are what its calls
--- make
+-- the script was played, and no difference is told exactly where the trace and the recorded replies are what its
+-- calls make
 pub record ShowsPlayed (trace : List ℕ) (calls : Calls) (differences : List (String Global)) : Type 0 where
   pub bytes : List ℕ
   pub replies : List ℕ
@@ -41,7 +41,8 @@ abbrev pub ShowsRefused : Calls → List (String Global) → Type 0
 ShowsRefused calls differences =
     (error : PlayError) × IsOfScript error × RefusesScript calls.script.now error × (differences ≢ [])
 
--- a script was compared; or it is read whole and has a call that the library has not, of which the first has this name
+-- a script was compared; or it is read whole and has a call that the library has not, of which the first has this
+-- name
 abbrev pub ShowsCalls : List ℕ → Calls → PartFinding → Type 0
 ShowsCalls trace calls Absent = ⊥
 ShowsCalls trace calls (LeftOut name) =

@@ -10,7 +10,7 @@ use Rattle.trace_values.specs.declared.leb128.error.EncodeError.{EncodeError}
 use Rattle.trace_values.specs.declared.leb128.error.EncodeError.TheVariants as errors
 use Rattle.trace_values.specs.IdTexts.{string_id_text, stack_id_text}
 use Rattle.trace_values.specs.Values.{owned_reader}
-use Rattle.trace_values.specs.View.{views}
+use Rattle.trace_values.specs.ValueViews.{views}
 use Rattle.trace_wire.specs.Runs.{Item}
 use Rattle.trace_wire.specs.Schemas as schemas
 use Rattle.trace_writer.specs.declared.encoder.call.Reply.{Reply}
@@ -18,13 +18,14 @@ use Rattle.trace_writer.specs.declared.encoder.call.Reply.TheVariants.{Done, Wir
 use Rattle.trace_writer.specs.State.{EncoderView, WriterState}
 use Rattle.std.specs.declared.alloc.Global.{Global}
 use Rattle.trace_values.specs.Sending.{telling_list}
-use Rattle.trace_writer.specs.Calls.{Action, Does, register, write_event, write_type, intern_string, write_string_pool}
+use Rattle.trace_writer.specs.Calls.{Action, register, write_event, write_type, intern_string, write_string_pool}
 use Rattle.trace_writer.specs.Calls.{intern_stack, write_stack_pool, Answered, fresh_state, header}
+use Rattle.trace_writer.specs.parts.encoder.Calls.{Does}
 use Rattle.trace_writer.specs.CallLists.{Plays}
 use Rattle.trace_writer.specs.Headline.{AreFaultless, IsRead, frames_played}
 use Rattle.trace_writer.specs.Resume.{IsResumed}
 use Rattle.dial9_trace_format.specs.Decoding.{DecoderState, DecodesAll}
-use Rattle.dial9_trace_format.specs.Decodings.{IsOpened}
+use Rattle.dial9_trace_format.specs.WrittenTraces.{IsOpened}
 use Rattle.trace_recordings.specs.declared.script.call.ScriptCall.{ScriptCall}
 use Rattle.trace_recordings.specs.declared.script.call.ScriptCall.TheVariants.{Nothing, Define, Register, Event}
 use Rattle.trace_recordings.specs.declared.script.call.ScriptCall.TheVariants.{DefineType, WriteTyped, InternString}
@@ -98,7 +99,11 @@ annotation_of a = record { index = a.index; key = string_bytes a.key; value = st
 -- the schema that a definition says
 abbrev pub defined_entry : Definition → schemas.Entry
 defined_entry d =
-    record { name = string_bytes d.name; fields = d.fields.items; annotations = map annotation_of d.annotations.items }
+    record {
+      name = string_bytes d.name;
+      fields = d.fields.items;
+      annotations = map annotation_of d.annotations.items;
+    }
 
 abbrev pub pool_text_of : PoolText → ℕ × List ℕ
 pool_text_of e = (e.id, e.bytes.items)
@@ -178,7 +183,9 @@ with_reply reply p = record p { replies = p.replies ++ reply_line reply p.state.
 abbrev pub with_schema : ℕ → Definition → Playing → Playing
 with_schema handle definition p =
     record p {
-      defined = record p.defined { schemas = insert_entry nat_cmp p.defined.schemas handle (defined_entry definition) };
+      defined = record p.defined {
+        schemas = insert_entry nat_cmp p.defined.schemas handle (defined_entry definition);
+      };
     }
 
 -- the type of a slot and a definition stands under its handle; one that stood there before goes

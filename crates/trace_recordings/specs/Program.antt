@@ -1,6 +1,6 @@
 -- What the program that replays is asked for, and what it answers.
-use Rattle.std.specs.Prelude.{◌≡◌, ◌≢◌, ◌≤◌, ◌↔◌, ℕ, Bool, if◌then◌else◌, List, [], ◌∷◌, Result, Ok, Err, String, codes}
-use Rattle.std.specs.Prelude.{string_bytes}
+use Rattle.std.specs.Prelude.{◌≡◌, ◌≢◌, ◌≤◌, ◌↔◌, ℕ, Bool, if◌then◌else◌, List, [], ◌∷◌, Result, Ok, Err, String}
+use Rattle.std.specs.Prelude.{codes, string_bytes}
 use Rattle.std.specs.declared.alloc.Global.{Global}
 use Rattle.trace_recordings.specs.declared.player.Played.{Played}
 use Rattle.trace_recordings.specs.declared.player.PlayError.{PlayError}
@@ -19,8 +19,8 @@ AsksToReplay words Usage = (words ≢ []) × ((word : String Global) → words �
 abbrev pub status_with : ℕ → Bool → ℕ
 status_with status differs = if differs then 1 else status
 
--- a script that was played ends with status 0, its trace and its replies; one that was not has no trace, and ends with
--- status 2 where the error is the script's, and with 1 where it is not
+-- a script that was played ends with status 0, its trace and its replies; one that was not has no trace, and ends
+-- with status 2 where the error is the script's, and with 1 where it is not
 abbrev pub Answers : Result Played PlayError → Answer → Type 0
 Answers (Ok played) answer =
     (answer.status ≡ 0) × (answer.output.items ≡ played.bytes.items)

@@ -9,7 +9,8 @@ use Rattle.trace_recordings.specs.Scripts.{lines_of}
 
 -- the script, the bytes and the replies
 abbrev pub calls_text : Calls → List ℕ → List ℕ
-calls_text calls bytes = calls.script.now ++ codes "\n# bytes\n" ++ bytes ++ codes "\n# replies\n" ++ calls.replies.now
+calls_text calls bytes = calls.script.now ++ codes "\n# bytes\n" ++ bytes ++ codes "\n# replies\n"
+    ++ calls.replies.now
 
 -- the lines of a recording between its name and its dump
 abbrev pub making_text : Option Calls → List ℕ → List ℕ

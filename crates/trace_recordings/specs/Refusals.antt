@@ -5,8 +5,8 @@ use Rattle.trace_recordings.specs.declared.player.PlayError.{PlayError}
 use Rattle.trace_recordings.specs.declared.player.PlayError.TheVariants as plays
 use Rattle.trace_recordings.specs.declared.script.definitions.Definition.{Definition}
 use Rattle.trace_recordings.specs.declared.script.call.ScriptCall.{ScriptCall}
-use Rattle.trace_recordings.specs.declared.script.call.ScriptCall.TheVariants.{Register, Event, DefineType, WriteTyped}
-use Rattle.trace_recordings.specs.declared.script.call.ScriptCall.TheVariants.{Resume}
+use Rattle.trace_recordings.specs.declared.script.call.ScriptCall.TheVariants.{Register, Event, DefineType}
+use Rattle.trace_recordings.specs.declared.script.call.ScriptCall.TheVariants.{WriteTyped, Resume}
 use Rattle.trace_recordings.specs.Scripts.{IsScript, IsBrokenAt, word_of}
 use Rattle.dial9_trace_format.specs.Decoding.{IsHeadless}
 use Rattle.trace_recordings.specs.Playing.{Defined, Playing, TurnsEach, defined_entry, start, under}

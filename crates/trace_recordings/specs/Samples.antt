@@ -7,7 +7,8 @@ use Rattle.trace_values.specs.Values.{Value}
 use Rattle.trace_wire.specs.Schemas.{Entry, same_entry}
 use Rattle.trace_writer.specs.declared.encoder.call.Reply.{Reply}
 use Rattle.trace_writer.specs.State.{EncoderView}
-use Rattle.trace_writer.specs.Calls.{Does, write_type}
+use Rattle.trace_writer.specs.parts.encoder.Calls.{Does}
+use Rattle.trace_writer.specs.Calls.{write_type}
 use Rattle.trace_samples.specs.EventEntries as entries
 
 -- the slot and the schema of each sample type

@@ -5,7 +5,7 @@ use Rattle.std.specs.List.{flat_map, slice_split}
 use Rattle.std.specs.Borrow.{Bor}
 use Rattle.hex.specs.Hex.{decode_of}
 use Rattle.trace_values.specs.Values.{Value}
-use Rattle.trace_values.specs.View.{views}
+use Rattle.trace_values.specs.ValueViews.{views}
 use Rattle.trace_lines.specs.Lines.{quoted, address_list, spaced_value}
 use Rattle.trace_recordings.specs.declared.script.call.ScriptCall.{ScriptCall}
 use Rattle.trace_recordings.specs.declared.script.call.ScriptCall.TheVariants.{Nothing, Define, Register, Event}

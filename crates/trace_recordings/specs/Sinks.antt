@@ -15,8 +15,8 @@ use Rattle.trace_recordings.specs.Tallies.{counted_up}
 abbrev pub counts : EventCounter → ShownEvent → EventCounter → Type 0
 counts s e t = t.events ≡ counted_up s.events 1
 
--- the place where the longest run over an input of a size ends before the rest, told by the bytes before it: before the
--- rest, or after the schema that differs from what its wire id stands for
+-- the place where the longest run over an input of a size ends before the rest, told by the bytes before it: before
+-- the rest, or after the schema that differs from what its wire id stands for
 abbrev pub IsPlace : ℕ → Grammar → List ℕ → Ending → ℕ → Type 0
 IsPlace size last rest Whole place = place ≡ size - length rest
 IsPlace size last rest Stopped place = place ≡ size - length rest

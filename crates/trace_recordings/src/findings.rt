@@ -40,9 +40,9 @@ pub struct Findings {
     pub sink: PartFinding,
 }
 
-/// Plays the script of a recording, dumps its trace, by each reader and with resolved events, and shows its events to a
-/// sink, and compares what comes of it with the recording. Where the recorded bytes cannot be read that is told as a
-/// difference of the dump. `AllocError` where a growth was refused, by whichever of these.
+/// Plays the script of a recording, dumps its trace, by each reader and with resolved events, and shows its events to
+/// a sink, and compares what comes of it with the recording. Where the recorded bytes cannot be read that is told as
+/// a difference of the dump. `AllocError` where a growth was refused, by whichever of these.
 pub fn findings_of(alloc: Global, recording: Recording<'_>) -> Result<Findings, AllocError>
     ensures script { IfOk result
         (λ f. WhereRead recording.entry

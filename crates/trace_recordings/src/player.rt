@@ -1,15 +1,15 @@
 //! Plays the calls of a script on an encoder.
 
-ghost use Rattle.std.specs.Prelude.{◌≡◌, ◌↔◌, ◌++◌, map, true, false, None, IsTrue, IfOk, IfErr, IfSome, is_none, OnOk};
-ghost use Rattle.std.specs.Prelude.{string_bytes};
+ghost use Rattle.std.specs.Prelude.{◌≡◌, ◌↔◌, ◌++◌, map, true, false, None, IsTrue, IfOk, IfErr, IfSome, is_none};
+ghost use Rattle.std.specs.Prelude.{OnOk, string_bytes};
 ghost use Rattle.std.specs.List.{AllByRecursion};
 ghost use Rattle.trace_wire.specs.PoolEntries.{string_entries_of, stack_entries_of};
 ghost use Rattle.trace_writer.specs.Calls.{reply_from};
 ghost use Rattle.trace_recordings.specs.declared.player.PlayError.TheVariants as errors;
-ghost use Rattle.trace_recordings.specs.Playing.{AnswersResumption, DefinesType, IsOfScript, IsPlayed, Asks, DoesCall};
-ghost use Rattle.trace_recordings.specs.Playing.{Resets, Resumes, Turns, answer_text, asks, defined_in, defined_entry};
-ghost use Rattle.trace_recordings.specs.Playing.{under, pool_stack_of, pool_text_of, playing_of, refusal_text};
-ghost use Rattle.trace_recordings.specs.Playing.{reply_line, start, with_reply, with_schema};
+ghost use Rattle.trace_recordings.specs.Playing.{AnswersResumption, DefinesType, IsOfScript, IsPlayed, Asks};
+ghost use Rattle.trace_recordings.specs.Playing.{DoesCall, Resets, Resumes, Turns, answer_text, asks, defined_in};
+ghost use Rattle.trace_recordings.specs.Playing.{defined_entry, under, pool_stack_of, pool_text_of, playing_of};
+ghost use Rattle.trace_recordings.specs.Playing.{refusal_text, reply_line, start, with_reply, with_schema};
 ghost use Rattle.trace_recordings.specs.Samples.{is_sample};
 ghost use Rattle.trace_recordings.specs.Refusals.{IsHad, IsOfPlayer, IsUnheld, LacksHeader, LacksType, LeavesOut};
 ghost use Rattle.trace_recordings.specs.Refusals.{MissesAt, RefusesScript, RefusesCall, RefusesUnder, misses};
@@ -105,12 +105,12 @@ impl<T: Drop> From<AllocFailed<T>> for PlayError {
 }
 
 /// Reads a script, and makes its calls in their order. A script with a type that is none of the samples is not begun.
-///
-/// What the encoder refuses is a reply. This refuses, in this order: `Script` with the first line that cannot be read,
-/// as `script_of` tells it; `LeftOut` at the first type that is none of the samples; `Encoder(Writer(OutOfMemory))`
-/// where there is no memory for the header; and then, at the first such line, `Unknown` where no schema or type has the
-/// handle, `Unheld` where the type has no event of these values, `Headless` of a `resume` where no header stands at the
-/// front of the output. `Memory` where a growth was refused once the script was read.
+///  What the encoder refuses is a reply. This refuses, in this order: `Script` with the first line that cannot be
+/// read, as `script_of` tells it; `LeftOut` at the first type that is none of the samples;
+/// `Encoder(Writer(OutOfMemory))` where there is no memory for the header; and then, at the first such line,
+/// `Unknown` where no schema or type has the handle, `Unheld` where the type has no event of these values, `Headless`
+/// of a `resume` where no header stands at the front of the output. `Memory` where a growth was refused once the
+/// script was read.
 #[tactic(auto, using(crate::proofs::ScriptRefusals::not_begun, crate::proofs::ScriptRefusals::no_player))]
 pub fn play(alloc: Global, text: &[u8]) -> Result<Played, PlayError>
     ensures played { IfOk result

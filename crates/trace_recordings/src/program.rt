@@ -165,8 +165,8 @@ fn play_input(rt: &(impl AllocGlobal + Input + Print + Eprint)) -> anyhow::Resul
 }
 
 /// What is answered where a script was played, or was not: the trace and the replies with `GOOD`; or nothing and the
-/// reason, with `UNREADABLE` where the error is the script's and `BAD` where it is not. `AllocError` where there is no
-/// memory for the reason.
+/// reason, with `UNREADABLE` where the error is the script's and `BAD` where it is not. `AllocError` where there is
+/// no memory for the reason.
 pub fn answer_of(alloc: Global, played: Result<Played, PlayError>) -> Result<Answer, AllocError>
     ensures { IfOk result (Answers played) }
 {

@@ -31,11 +31,11 @@ pub struct ScriptError {
     pub error: LineError,
 }
 
-/// Reads a script: what each line asks for, in their order. A line ends with a line feed, which the last one may lack.
-///
-/// Refuses the first line that cannot be read, with its number and the error that `call_of` tells: `CarriageReturn` in
-/// its place where a carriage return ends the line, but for `Memory`. `Memory` too where there is no room for what the
-/// line asks for.
+/// Reads a script: what each line asks for, in their order. A line ends with a line feed, which the last one may
+/// lack.
+///  Refuses the first line that cannot be read, with its number and the error that `call_of` tells: `CarriageReturn`
+/// in its place where a carriage return ends the line, but for `Memory`. `Memory` too where there is no room for what
+/// the line asks for.
 #[tactic(auto, using(crate::proofs::ScriptLines::one_more, crate::proofs::ScriptLines::the_last))]
 pub fn script_of(alloc: Global, text: &[u8]) -> Result<Vec<ScriptCall>, ScriptError>
     ensures read { IfOk result (λ calls. IsScript calls.items text.now) }

@@ -23,8 +23,8 @@ impl<'a> EventVisitor<'a> for EventCounter {
     }
 }
 
-/// The lines of what a sink is given of a trace: how many events, how that ended, and at which place; or that no header
-/// stands there. `AllocError` where a growth was refused, the reader's included.
+/// The lines of what a sink is given of a trace: how many events, how that ended, and at which place; or that no
+/// header stands there. `AllocError` where a growth was refused, the reader's included.
 pub fn sink_lines(alloc: Global, trace: &[u8]) -> Result<String, AllocError>
     ensures { IfOk result (λ lines. IsSinkText trace.now (string_bytes lines)) }
 {

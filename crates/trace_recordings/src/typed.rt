@@ -1,7 +1,7 @@
 //! Events of the sample types, from the values of a script (docs/RECORDINGS.md, "Scripts").
 
 ghost use Rattle.std.specs.Prelude.{◌≡◌, true, IfOk};
-ghost use Rattle.trace_values.specs.View.{views};
+ghost use Rattle.trace_values.specs.ValueViews.{views};
 ghost use Rattle.trace_recordings.specs.Samples.{WritesEvent, is_of, is_sample};
 ghost use Rattle.trace_recordings.specs.declared.typed.Unheld.TheVariants.{Memory};
 
@@ -98,8 +98,8 @@ fn is_type<T: TraceEvent>(slot: u64, entry: &SchemaEntry) -> bool
 }
 
 /// Writes the event of a sample type that has these values. What the encoder refuses is the reply. `Unfit` where the
-/// type has no event of these values, and `Memory` where a growth for the event was refused: the encoder is not called
-/// then.
+/// type has no event of these values, and `Memory` where a growth for the event was refused: the encoder is not
+/// called then.
 pub fn write_sample(
     alloc: Global,
     encoder: &mut Encoder,
@@ -108,7 +108,8 @@ pub fn write_sample(
     values: &[FieldValue],
 ) -> Result<Reply, Unheld>
     ensures { IfOk result
-        (WritesEvent sample.now.slot sample.now.schema time (views values.now) encoder.old encoder.new) }
+        (WritesEvent sample.now.slot sample.now.schema time (views values.now) encoder.old
+        encoder.new) }
 {
     let slot = sample.slot;
     let entry = sample.schema.entry();

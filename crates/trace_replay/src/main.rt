@@ -1,4 +1,5 @@
-//! The program `trace_replay` (docs/RECORDINGS.md). Its stored run compares all recordings of its folder `data`; `runs/` has others.
+//! The program `trace_replay` (docs/RECORDINGS.md). Its stored run compares all recordings of its folder `data`;
+//! `runs/` has others.
 #![tactic(auto)]
 
 use std::process::ExitCode;

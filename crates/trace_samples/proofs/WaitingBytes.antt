@@ -9,7 +9,8 @@ pub none_waits :
     len ≤ length buffer → (nat_eq handed len ≡ true → waiting ≡ []) × (waiting ≡ [] → nat_eq handed len ≡ true)
 none_waits handed len buffer waiting is low high =
     let size = length-take-le len buffer high in (
-      λ e. (let same = eqb-true handed len e in sym is ∙ drop_all handed (take len buffer) (omega (arith, size, same))),
+      λ e. (let same = eqb-true handed len e in sym is
+          ∙ drop_all handed (take len buffer) (omega (arith, size, same))),
       λ none.
           (let left = ap length (is ∙ none) in eq-eqb handed len
           (omega (arith, size, left, low, length-drop handed (take len buffer)))),

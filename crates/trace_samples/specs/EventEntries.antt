@@ -44,7 +44,8 @@ poll_entry = bare_schema (codes "Poll") (field (codes "worker") types.Varint ∷
     ∷ field (codes "label") types.PooledString ∷ [])
 
 abbrev pub poll_again_entry : Entry
-poll_again_entry = bare_schema (codes "Poll") (field (codes "worker") types.Varint ∷ field (codes "core") types.U8 ∷ [])
+poll_again_entry = bare_schema (codes "Poll") (field (codes "worker") types.Varint ∷ field (codes "core") types.U8
+    ∷ [])
 
 abbrev pub poll_annotated_entry : Entry
 poll_annotated_entry = record poll_entry { annotations = annotation 1 (codes "unit") (codes "index") ∷ [] }

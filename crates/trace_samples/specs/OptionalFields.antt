@@ -17,4 +17,5 @@ optional_numbers e =
 abbrev pub optional_texts : OptionalTexts → List Value
 optional_texts e = value_of_option (λ s. text (string_bytes s)) e.text ∷ value_of_option (λ v. bytes v.items) e.blob
     ∷ value_of_option (λ x. stack x.0.items) e.frames ∷ value_of_option (λ x. pooled_text x.0) e.label
-    ∷ value_of_option (λ x. pooled_stack x.0) e.stack ∷ value_of_option (λ v. texts (string_pairs v.items)) e.pairs ∷ []
+    ∷ value_of_option (λ x. pooled_stack x.0) e.stack ∷ value_of_option (λ v. texts (string_pairs v.items)) e.pairs
+    ∷ []

@@ -39,7 +39,8 @@ impl Model for Told {
 impl TraceWrite for Told {
     ghost told = { all_told };
 
-    /// Accepts of the piece what the manner allows. Where that is nothing, it fails by the manner, and tells the fault.
+    /// Accepts of the piece what the manner allows. Where that is nothing, it fails by the manner, and tells the
+    /// fault.
     fn send(&mut self, piece: &[u8]) -> io::Result<usize>
         ensures within { IfOk result (λ n. n ≤ length piece.now) }
         ensures took { Took (all_told self.old) (all_told self.new) (accepted_by result piece.now)

@@ -1,3 +1,2 @@
 pub mod Dense
-pub mod Interned
-pub mod Used
+pub mod parts

@@ -1,5 +1,5 @@
-//! The program `tracedump` (docs/FORMAT.md, "Dumps"): reads a trace from standard input, and writes the lines of what it
-//! holds to standard output. Its stored run is a whole trace; `runs/` has others.
+//! The program `tracedump` (docs/FORMAT.md, "Dumps"): reads a trace from standard input, and writes the lines of what
+//! it holds to standard output. Its stored run is a whole trace; `runs/` has others.
 #![tactic(auto)]
 
 use std::process::ExitCode;

@@ -2,9 +2,8 @@
 use Rattle.std.proofs.Common.{◌≡◌, ℕ, List, [], ◌∷◌, ◌++◌, Vec, Ok, Err, inr, refl, sym, ap, subst, ◌∙◌, append-nil}
 use Rattle.std.specs.declared.alloc.Global.{Global}
 use Rattle.dial9_trace_format.specs.Words.{Frame, Header, FrontOf, Action, Done, EncoderView, Outcome, replied_done}
-use Rattle.dial9_trace_format.specs.Words.{EncodeError}
-use Rattle.dial9_trace_format.specs.Words.{frames_of, fresh_state, frames_played, Plays, IsResumed, IsTraceOf}
-use Rattle.dial9_trace_format.specs.Words.{TracesJoin, FaultsAreFronts, frames_begun, TraceIsDecoded}
+use Rattle.dial9_trace_format.specs.Words.{EncodeError, frames_of, fresh_state, frames_played, Plays, IsResumed}
+use Rattle.dial9_trace_format.specs.Words.{IsTraceOf, TracesJoin, FaultsAreFronts, frames_begun, TraceIsDecoded}
 use Rattle.dial9_trace_format.specs.Words.{DecoderState, bytes_before, OpenedHasTaken, TakesMore, FrontGoesOn}
 use Rattle.dial9_trace_format.specs.Words.{WholeStory}
 use Rattle.user_words.specs.Torn.{JoinsAfter, RefusesToJoin, PlainStory, told}
@@ -63,7 +62,8 @@ call_refused d kept a e old new resumed same call = inr (old, new, resumed, same
 
 -- the whole story with readers of one kind, and without faults
 pub plain_story : OpenedHasTaken → TakesMore → FaultsAreFronts → WholeStory → PlainStory
-plain_story opened more fronts story calls later replies answers sent next c d y x z k first last taken all plays quiet
+plain_story opened more fronts story calls later replies answers sent next c d y x z k first last taken all plays
+    quiet
     parts o g is then none =
     let s = story c
     (record { calls = calls; replies = replies; sent = sent; last = y; played = plays; lost = d; parts = parts })

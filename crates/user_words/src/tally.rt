@@ -49,9 +49,9 @@ impl<'a> EventSink<'a, Full> for Tally {
 }
 
 /// Counts the events that are left. Where none is refused and the input is read to its end, all are counted. Refuses
-/// what `Decoder::try_for_each_event` does: `User(Full)` at an event past `u64::MAX` of them; `Decode` where bytes are
-/// left that begin with no frame, and where the decoder has failed or fails here, by `DecodeErrorKind::Conflict` or
-/// `DecodeErrorKind::OutOfMemory`.
+/// what `Decoder::try_for_each_event` does: `User(Full)` at an event past `u64::MAX` of them; `Decode` where bytes
+/// are left that begin with no frame, and where the decoder has failed or fails here, by `DecodeErrorKind::Conflict`
+/// or `DecodeErrorKind::OutOfMemory`.
 pub fn tally_all(decoder: &mut Decoder<'_>, tally: &mut Tally) -> Result<(), TryForEachError<Full>>
     ensures all { OnOk result (TalliesAll decoder.old decoder.new tally.old tally.new) }
     ensures runs { decoder.old.failure ≡ None

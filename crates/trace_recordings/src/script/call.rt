@@ -7,8 +7,8 @@ use crate::script::definitions::Definition;
 use crate::script::pools::{PoolStack, PoolText};
 use trace_values::types::FieldValue;
 
-/// What a line of a script asks for (docs/RECORDINGS.md, "Scripts"). A handle is a number that the script chooses for a
-/// schema or for a type of events. Times are in nanoseconds.
+/// What a line of a script asks for (docs/RECORDINGS.md, "Scripts"). A handle is a number that the script chooses for
+/// a schema or for a type of events. Times are in nanoseconds.
 #[derive(Drop)]
 pub enum ScriptCall {
     /// Nothing: the line is empty, or begins with `#`.

@@ -4,7 +4,7 @@ ghost use Rattle.std.specs.Prelude.{◌≡◌, ◌↔◌, ◌<◌, ◌≤◌, �
 ghost use Rattle.std.specs.Prelude.{IsSome, OnOk, codes, decimal};
 ghost use Rattle.std.specs.List.{flat_map, AllPass};
 ghost use Rattle.hex.specs.Hex.{is_hex_digit};
-ghost use Rattle.trace_values.specs.View.{view, views};
+ghost use Rattle.trace_values.specs.ValueViews.{view, views};
 ghost use Rattle.trace_lines.specs.Lines.{spaced_value};
 ghost use Rattle.trace_recordings.specs.Scripts.{event_text, AreDigitsOf, IsPair, Says, SaysNoWord, Shortens};
 
@@ -19,14 +19,13 @@ use hex::FromHex;
 use std::alloc::Global;
 use trace_values::types::FieldValue;
 
-/// Reads what a line asks for. A line that is empty or begins with `#`, and one that is `reset`, `resume` or `bare`, is
-/// never refused.
-///
-/// Of any other: `ScriptCall` where its first word is that of no call with parts; else the first error of its parts,
+/// Reads what a line asks for. A line that is empty or begins with `#`, and one that is `reset`, `resume` or `bare`,
+/// is never refused.
+///  Of any other: `ScriptCall` where its first word is that of no call with parts; else the first error of its parts,
 /// from left to right. `Mark(' ')` where a part has no space before it; `Number` of a handle, a slot or a time; what
-/// `definition_of`, `leading_value`, `leading_name`, `leading_addresses`, `pool_texts` and `pool_stacks` refuse of what
-/// the call has; `Hexadecimal` of bytes; `Excess` where more stands after a handle, a text or addresses that end the
-/// call. `Memory` where a growth was refused.
+/// `definition_of`, `leading_value`, `leading_name`, `leading_addresses`, `pool_texts` and `pool_stacks` refuse of
+/// what the call has; `Hexadecimal` of bytes; `Excess` where more stands after a handle, a text or addresses that end
+/// the call. `Memory` where a growth was refused.
 pub fn call_of(alloc: Global, line: &[u8]) -> Result<ScriptCall, LineError>
     ensures says { IfOk result (λ call. Says call line.now) }
     ensures unsaid { IfErr result (λ _. SaysNoWord line.now) }

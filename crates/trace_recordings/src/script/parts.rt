@@ -2,7 +2,7 @@
 //! refused, so that nothing is read as something else.
 
 ghost use Rattle.std.specs.Prelude.{◌≡◌, ◌+◌, ◌<◌, ◌++◌, length, IfOk, IfSome, codes, decimal, string_bytes};
-ghost use Rattle.trace_values.specs.View.{view};
+ghost use Rattle.trace_values.specs.ValueViews.{view};
 ghost use Rattle.trace_lines.specs.Lines.{quoted, address_list, type_name, value_text};
 
 use crate::script::line_error::LineError;
@@ -23,8 +23,8 @@ pub fn after_mark<'a>(line: &'a [u8], mark: &[u8]) -> Option<&'a [u8]>
     line.strip_prefix(mark)
 }
 
-/// A number in decimal digits, and the rest. `Number` where what the digits at the front say (`loose::number`) does not
-/// stand there as it is printed, and so where no digit does. `Memory` where a growth was refused.
+/// A number in decimal digits, and the rest. `Number` where what the digits at the front say (`loose::number`) does
+/// not stand there as it is printed, and so where no digit does. `Memory` where a growth was refused.
 pub fn leading_number(alloc: Global, line: &[u8]) -> Result<(u64, &[u8]), LineError>
     ensures { IfOk result (λ x. line.now ≡ decimal x.0 ++ x.1.now) }
 {
@@ -34,8 +34,8 @@ pub fn leading_number(alloc: Global, line: &[u8]) -> Result<(u64, &[u8]), LineEr
     Ok((number, rest))
 }
 
-/// The bytes of a text in quotes, and the rest. `Text` where no text in quotes stands at the front, or it is spelled in
-/// another way than it is printed. `Memory` where a growth was refused.
+/// The bytes of a text in quotes, and the rest. `Text` where no text in quotes stands at the front, or it is spelled
+/// in another way than it is printed. `Memory` where a growth was refused.
 pub fn leading_text(alloc: Global, line: &[u8]) -> Result<(Vec<u8>, &[u8]), LineError>
     ensures { IfOk result (λ x. line.now ≡ quoted x.0.items ++ x.1.now) }
 {
@@ -46,8 +46,8 @@ pub fn leading_text(alloc: Global, line: &[u8]) -> Result<(Vec<u8>, &[u8]), Line
     Ok((bytes, rest))
 }
 
-/// A text in quotes that is UTF-8, and the rest. `Text` and `Memory` as `leading_text`; `Utf8` where its bytes are not
-/// UTF-8.
+/// A text in quotes that is UTF-8, and the rest. `Text` and `Memory` as `leading_text`; `Utf8` where its bytes are
+/// not UTF-8.
 pub fn leading_name(alloc: Global, line: &[u8]) -> Result<(String, &[u8]), LineError>
     ensures { IfOk result (λ x. line.now ≡ quoted (string_bytes x.0) ++ x.1.now) }
 {
@@ -69,8 +69,8 @@ pub fn leading_addresses(alloc: Global, line: &[u8]) -> Result<(Vec<u64>, &[u8])
 }
 
 /// A value as a dump shows it, and the rest. What `loose::value` refuses of one with at most `MAX_NESTING` values
-/// around its innermost; `Value` too where it is spelled in another way than it is printed. `Memory` where a growth was
-/// refused.
+/// around its innermost; `Value` too where it is spelled in another way than it is printed. `Memory` where a growth
+/// was refused.
 pub fn leading_value(alloc: Global, line: &[u8]) -> Result<(FieldValue, &[u8]), LineError>
     ensures { IfOk result (λ x. line.now ≡ value_text (view x.0) ++ x.1.now) }
 {
@@ -81,8 +81,8 @@ pub fn leading_value(alloc: Global, line: &[u8]) -> Result<(FieldValue, &[u8]), 
     Ok((value, rest))
 }
 
-/// The name of a field type, and the rest. `FieldType` where the letters and digits at the front are the name of none.
-/// Takes no memory.
+/// The name of a field type, and the rest. `FieldType` where the letters and digits at the front are the name of
+/// none. Takes no memory.
 pub fn leading_type(line: &[u8]) -> Result<(FieldType, &[u8]), LineError>
     ensures { IfOk result (λ x. line.now ≡ type_name x.0 ++ x.1.now) }
 {

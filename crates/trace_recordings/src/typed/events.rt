@@ -2,7 +2,7 @@
 
 ghost use Rattle.std.specs.Prelude.{◌≡◌, IfOk, IfSome, map};
 ghost use Rattle.trace_values.specs.Values.{number};
-ghost use Rattle.trace_values.specs.View.{views};
+ghost use Rattle.trace_values.specs.ValueViews.{views};
 ghost use Rattle.trace_samples.specs.OptionalFields.{optional_numbers, optional_texts};
 ghost use Rattle.trace_recordings.specs.Events.{wide_numbers};
 
@@ -21,8 +21,8 @@ use trace_writer::event::TraceEvent;
 
 /// An event that can be made from a time and values.
 pub trait HoldsValues<'a>: TraceEvent {
-    /// The event of this time with these values. `Unfit` where there are not as many as fields, or one does not fit its
-    /// field; `Memory` where a growth was refused.
+    /// The event of this time with these values. `Unfit` where there are not as many as fields, or one does not fit
+    /// its field; `Memory` where a growth was refused.
     fn of_values(alloc: Global, time: u64, values: &'a [FieldValue]) -> Result<Self, Unheld>
         ensures time { IfOk result (λ e. Self.time e ≡ time) }
         ensures values { IfOk result (λ e. Self.values e ≡ views values.now) };

@@ -1,7 +1,7 @@
 //! Fields of events, from values.
 
 ghost use Rattle.std.specs.Prelude.{◌≡◌, IfOk, string_bytes};
-ghost use Rattle.trace_values.specs.View.{text_pairs_view, view};
+ghost use Rattle.trace_values.specs.ValueViews.{text_pairs_view, view};
 ghost use Rattle.trace_values.specs.TraceFields.{string_pairs};
 
 use crate::typed::Unheld;

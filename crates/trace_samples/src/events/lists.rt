@@ -1,7 +1,7 @@
 //! An event type with a list and a map of values.
 
 ghost use Rattle.std.specs.Prelude.{◌≡◌, [], ◌∷◌, refl};
-ghost use Rattle.trace_values.specs.View.{view};
+ghost use Rattle.trace_values.specs.ValueViews.{view};
 ghost use Rattle.trace_samples.specs.EventEntries.{dynamic_entry};
 
 use trace_values::leb128::EncodeError;

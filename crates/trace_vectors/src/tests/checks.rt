@@ -1,4 +1,5 @@
-//! What several tests compare. Each function holds one comparison or two, so that proofs of those that make many stay small.
+//! What several tests compare. Each function holds one comparison or two, so that proofs of those that make many stay
+//! small.
 
 use crate::tests::calls::{all, decoder_of, next};
 use dial9_trace_format::decoder::Decoder;

@@ -67,7 +67,15 @@ fn is_front(alloc: Global, reads: usize, bytes: usize) -> bool {
 /// The lines of what was read are written before more is read.
 #[test]
 fn what_was_read_is_written_first(rt: HostRuntime) {
-    for (reads, bytes) in [(0, 0), (4, 0), (5, 16), (18, 16), (19, 39), (25, 39), (26, 64)] {
+    for (reads, bytes) in [
+        (0, 0),
+        (4, 0),
+        (5, 16),
+        (18, 16),
+        (19, 39),
+        (25, 39),
+        (26, 64),
+    ] {
         assert!(rt; is_front(rt.alloc(), reads, bytes));
     }
 }
@@ -75,7 +83,15 @@ fn what_was_read_is_written_first(rt: HostRuntime) {
 /// After a conflict and after no header no more is read.
 #[test]
 fn nothing_is_read_after_the_last_line(rt: HostRuntime) {
-    let lines = "trace version 1\nschema \"Ev\" \"v\":Varint\nevent 256 1000 Varint:42\nend conflict at 40 id 256\n";
+    let lines =
+        "trace version 1\nschema \"Ev\" \"v\":Varint\nevent 256 1000 Varint:42\nend conflict at 40 id 256\n";
     assert!(rt; writes(rt.alloc(), read_in(&CONFLICT, 40, 1), AT_CONFLICT, lines));
-    assert!(rt; writes(rt.alloc(), read_in(&[0, 0, 0, 0, 1], 5, 1), NO_HEADER, "no header\n"));
+    assert!(rt;
+        writes(
+            rt.alloc(),
+            read_in(&[0, 0, 0, 0, 1], 5, 1),
+            NO_HEADER,
+            "no header\n"
+        )
+    );
 }

@@ -16,7 +16,8 @@ use std::test::Fail;
 use trace_samples::{Fault, Manner, Told};
 use trace_values::leb128::Faults;
 
-/// A frame is read with owned values, one with borrowed values, one by an iterator, and one is shown to a sink, which refuses it.
+/// A frame is read with owned values, one with borrowed values, one by an iterator, and one is shown to a sink, which
+/// refuses it.
 fn is_read_in_turn(decoder: &mut Decoder<'_>) -> Result<bool, Fail> {
     Ok(
         gives_owned(decoder, 18)?

@@ -43,7 +43,8 @@ fn tells_error<'a>(
     }
 }
 
-/// A visitor is shown so many events, whose times are so much together, and then this error comes at this place, where the decoder stays.
+/// A visitor is shown so many events, whose times are so much together, and then this error comes at this place,
+/// where the decoder stays.
 pub fn is_shown(
     decoder: &mut Decoder<'_>,
     seen: (u64, u64),

@@ -1,4 +1,4 @@
-//! Values alone: absent ones, and values after an offset.
+//! Values alone: absent ones, and values after an place.
 
 use crate::tests::calls::encoded;
 use crate::tests::checks::check_bytes;
@@ -18,30 +18,30 @@ fn absent_values(rt: HostRuntime) -> Result<(), Fail> {
     Ok(())
 }
 
-/// The reader of borrowed values reads none from the bytes at this offset.
+/// The reader of borrowed values reads none from the bytes at this place.
 fn is_no_borrowed(
     alloc: Global,
     of: FieldType,
     bytes: &[u8],
-    offset: usize,
+    place: usize,
 ) -> Result<bool, AllocError> {
-    Ok(FieldValueRef::decode(alloc, of, bytes, offset)?.is_none())
+    Ok(FieldValueRef::decode(alloc, of, bytes, place)?.is_none())
 }
 
 /// Bytes before a number of two bytes.
 const OFFSET: [u8; 4] = [0xFF, 0xFF, 0x2C, 0x01];
 
-/// The number is read at its offset.
-fn reads_at_offset(alloc: Global) -> Result<bool, AllocError> {
+/// The number is read at its place.
+fn reads_at_place(alloc: Global) -> Result<bool, AllocError> {
     let read = FieldValueRef::decode(alloc, FieldType::U16, &OFFSET, 2)?;
     Ok(matches!(read, Some((FieldValueRef::Varint(300), 2))))
 }
 
 #[test]
-fn borrowed_values_after_an_offset(rt: HostRuntime) -> Result<(), Fail> {
-    assert!(rt; reads_at_offset(rt.alloc())?);
-    for offset in [4, 5usize] {
-        assert!(rt; is_no_borrowed(rt.alloc(), FieldType::U8, &OFFSET, offset)?);
+fn borrowed_values_after_an_place(rt: HostRuntime) -> Result<(), Fail> {
+    assert!(rt; reads_at_place(rt.alloc())?);
+    for place in [4, 5usize] {
+        assert!(rt; is_no_borrowed(rt.alloc(), FieldType::U8, &OFFSET, place)?);
     }
     Ok(())
 }

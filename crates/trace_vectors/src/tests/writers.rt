@@ -222,7 +222,8 @@ fn is_made_again(
     Ok(encoder.as_inner().faults() == Faults::NoFault)
 }
 
-/// The call over a writer that does not fail, or would fail to settle: all is sent, and nothing settled, nor where all is known.
+/// The call over a writer that does not fail, or would fail to settle: all is sent, and nothing settled, nor where
+/// all is known.
 fn check_whole(
     rt: &impl Abort,
     alloc: Global,

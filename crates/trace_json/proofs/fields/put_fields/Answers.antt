@@ -1,9 +1,9 @@
 use Rattle.std.proofs.Common.{◌≡◌, [], ap, refl, ◌∙◌, drop}
 use Rattle.trace_values.specs.Refs.{ref_view}
-use Rattle.dial9_trace_format.specs.Resolving.{as_pools}
+use Rattle.dial9_trace_format.specs.parts.Resolving.{as_pools}
 use Rattle.dial9_trace_format.specs.ShownEvents.{names_of}
 use Rattle.trace_json.specs.EventJson.{AreFieldsJson}
-use Rattle.trace_json.specs.Put.{member_tokens}
+use Rattle.trace_json.specs.parts.Put.{member_tokens}
 use Rattle.trace_json.proofs.Tokens.{nothing_put}
 use Rattle.trace_json.proofs.OneMore.{all_stand, drop_next, field_stands}
 use Rattle.trace_json.proofs.fields.put_fields.Goals as goal

@@ -1,9 +1,9 @@
 use Rattle.std.proofs.Common.{◌≡◌, take, drop}
 use Rattle.trace_values.specs.Refs.{ref_views}
-use Rattle.dial9_trace_format.specs.Resolving.{as_pools}
+use Rattle.dial9_trace_format.specs.parts.Resolving.{as_pools}
 use Rattle.dial9_trace_format.specs.ShownEvents.{names_of}
 use Rattle.trace_json.specs.EventJson.{AreFieldsJson}
-use Rattle.trace_json.specs.Put.{StandAll, member_tokens}
+use Rattle.trace_json.specs.parts.Put.{StandAll, member_tokens}
 use Rattle.trace_json.proofs.fields.put_fields.Given as goal
 
 abbrev pub invariant-fields : goal.invariant-fields

@@ -18,7 +18,8 @@ pairs-init c = record {
 
 pub unwrap-requires : goal.unwrap-requires
 unwrap-requires c =
-    one_stands (λ x. ((x.0.0.now, x.0.1.now), x.1.now)) c.args.pairs.now c.text_pair_at.result _ _ _ _ c.pairs-test.true
+    one_stands (λ x. ((x.0.0.now, x.0.1.now), x.1.now)) c.args.pairs.now c.text_pair_at.result _ _ _ _
+    c.pairs-test.true
     c.text_pair_at.ensures c.pairs.invariant.left
 
 pub pairs-preserved : goal.pairs-preserved
@@ -38,7 +39,8 @@ pairs-preserved c =
 pub returns : goal.returns
 returns c = record {
   tokens = c.pairs.invariant.tokens
-      ∙ ap (λ (ps : List (List ℕ × List ℕ)). c.args.out.now.tokens ++ flat_map (λ p. json_tokens (text_pair_json p)) ps)
+      ∙ ap (λ (ps : List (List ℕ × List ℕ)). c.args.out.now.tokens
+      ++ flat_map (λ p. json_tokens (text_pair_json p)) ps)
       (none_left c.args.pairs.now _ _ _ _ c.pairs-test.false c.pairs.invariant.left);
   before = c.pairs.invariant.before;
 }

@@ -2,7 +2,7 @@ use Rattle.std.proofs.Common.{refl, ◌∙◌, []}
 use Rattle.json.specs.Tree.{json_tokens}
 use Rattle.trace_values.specs.Reading.{values_to_items, values_to_pairs}
 use Rattle.trace_values.specs.Refs.{ref_view, ref_views, ref_pair_views}
-use Rattle.dial9_trace_format.specs.Resolving.{as_pools}
+use Rattle.dial9_trace_format.specs.parts.Resolving.{as_pools}
 use Rattle.trace_json.specs.EventJson.{AreItemsJson, ArePairsJson, IsValueJson}
 use Rattle.trace_json.proofs.Tokens.{list_stands, nothing_put, pair_closed}
 use Rattle.trace_json.proofs.OneMore.{all_stand, item_stands, pair_stands_in}

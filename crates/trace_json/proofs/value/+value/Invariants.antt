@@ -2,9 +2,9 @@ use Rattle.std.proofs.Common.{◌≡◌, take}
 use Rattle.json.specs.Tree.{json_tokens}
 use Rattle.trace_values.specs.Reading.{values_to_items, values_to_pairs}
 use Rattle.trace_values.specs.Refs.{ref_views, ref_pair_views}
-use Rattle.dial9_trace_format.specs.Resolving.{as_pools}
+use Rattle.dial9_trace_format.specs.parts.Resolving.{as_pools}
 use Rattle.trace_json.specs.EventJson.{AreItemsJson, ArePairsJson}
-use Rattle.trace_json.specs.Put.{StandAll}
+use Rattle.trace_json.specs.parts.Put.{StandAll}
 use Rattle.trace_json.proofs.value.+value.Given as goal
 
 abbrev pub invariant-put_items-items : goal.invariant-put_items-items

@@ -10,7 +10,8 @@ pairs-init c =
 
 pub unwrap-requires : goal.unwrap-requires
 unwrap-requires c =
-    one_stands (λ x. ((x.0.0.now, x.0.1.now), x.1.now)) c.args.pairs.now c.text_pair_at.result _ _ _ _ c.pairs-test.true
+    one_stands (λ x. ((x.0.0.now, x.0.1.now), x.1.now)) c.args.pairs.now c.text_pair_at.result _ _ _ _
+    c.pairs-test.true
     c.text_pair_at.ensures c.pairs.invariant
 
 pub pairs-preserved : goal.pairs-preserved

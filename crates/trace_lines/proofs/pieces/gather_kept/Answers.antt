@@ -1,5 +1,5 @@
 use Rattle.std.proofs.Common.{[], string_bytes, subst, sym}
-use Rattle.trace_lines.specs.PieceDumps.{LinesBegin}
+use Rattle.trace_lines.specs.parts.PieceDumps.{LinesBegin}
 use Rattle.trace_lines.proofs.PiecesGathered.{none_yet, front_so_far, one_more, no_more, last_one, refused_after}
 use Rattle.trace_lines.proofs.pieces.gather_kept.Goals as goal
 

@@ -1,5 +1,5 @@
 use Rattle.std.proofs.Common.{[], append-nil, arith, string_bytes, subst, sym}
-use Rattle.trace_lines.specs.PieceDumps.{IsLeft}
+use Rattle.trace_lines.specs.parts.PieceDumps.{IsLeft}
 use Rattle.trace_lines.proofs.DumpsSentInParts.{sent_in_part, sent_nothing}
 use Rattle.trace_lines.proofs.PieceLines.{both_fit, left_exists}
 use Rattle.trace_lines.proofs.pieces.send_last.Goals as goal

@@ -20,12 +20,14 @@ returns-in-Ok-eq0 g c =
 
 pub returns-in_err-status-in-Ok : goal.returns-in_err-status-in-Ok
 returns-in_err-status-in-Ok g c =
-    piece_failed _ c.send_piece.new.decoder _ _ c.in_err-status-in-Ok.field-0 c.from_residual.result c.from_residual.ensures.0
+    piece_failed _ c.send_piece.new.decoder _ _ c.in_err-status-in-Ok.field-0 c.from_residual.result
+    c.from_residual.ensures.0
     c.reads.invariant.sent c.in-Ok.ensures.bytes.0 c.in_err-status-in-Ok.ensures
 
 pub returns-in-Some : goal.returns-in-Some
 returns-in-Some g c =
-    piece_ends _ c.send_piece.new.decoder _ _ c.in-Some.status c.in_ok-status-in-Ok.field-0 c.in-Some.is c.reads.invariant.sent
+    piece_ends _ c.send_piece.new.decoder _ _ c.in-Some.status c.in_ok-status-in-Ok.field-0 c.in-Some.is
+    c.reads.invariant.sent
     c.in-Ok.ensures.bytes.0 c.in_ok-status-in-Ok.ensures
 
 pub returns-then-ne : goal.returns-then-ne

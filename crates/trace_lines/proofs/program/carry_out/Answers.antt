@@ -2,7 +2,8 @@ use Rattle.std.proofs.Common.{◌≡◌, ◌∙◌, refl, [], inl, arith, le_ref
 use Rattle.trace_values.proofs.SendingLemmas.{TookOnly-none}
 use Rattle.trace_lines.specs.declared.program.Task.{Task}
 use Rattle.trace_lines.specs.declared.program.Task.TheVariants.{Dump, Resolve}
-use Rattle.trace_lines.specs.Program.{resolves, DumpsAll, DumpsFront}
+use Rattle.trace_lines.specs.parts.Program.{resolves, DumpsFront}
+use Rattle.trace_lines.specs.Program.{DumpsAll}
 use Rattle.trace_lines.proofs.PiecesSent.{nothing_dumped}
 use Rattle.trace_lines.proofs.program.carry_out.Goals as goal
 

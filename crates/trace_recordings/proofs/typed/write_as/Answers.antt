@@ -1,5 +1,5 @@
 use Rattle.std.proofs.Common.{rules}
-use Rattle.trace_values.specs.View.{views}
+use Rattle.trace_values.specs.ValueViews.{views}
 use Rattle.trace_recordings.proofs.SampleTypes.{of_that}
 use Rattle.trace_recordings.specs.Samples.{WritesEvent}
 use Rattle.trace_recordings.proofs.typed.write_as.Goals as goal

@@ -1,5 +1,5 @@
-//! Events of values of each size and of each count of fields, schemas with names of each size, frames of each kind, and lists of calls, as they are
-//! read and copied.
+//! Events of values of each size and of each count of fields, schemas with names of each size, frames of each kind,
+//! and lists of calls, as they are read and copied.
 
 use crate::tests::ample::schemas::fields;
 use crate::tests::ample::traces::check_trace;

@@ -1,5 +1,5 @@
-use Rattle.std.proofs.Common.{rules, ◌≡◌, ◌++◌, ◌∙◌, ℕ, ◌≤◌, ◌<◌, List, [], ◌∷◌, length, get_or, IfOk, codes, ap, refl}
-use Rattle.std.proofs.Common.{subst, sym, arith}
+use Rattle.std.proofs.Common.{rules, ◌≡◌, ◌++◌, ◌∙◌, ℕ, ◌≤◌, ◌<◌, List, [], ◌∷◌, length, get_or, IfOk, codes, ap}
+use Rattle.std.proofs.Common.{refl, subst, sym, arith}
 use Rattle.trace_recordings.specs.Scripts.{Says}
 use Rattle.trace_recordings.proofs.EventValues.{number_more, no_number_more}
 use Rattle.trace_recordings.proofs.script.line.parts_of.Goals as goal

@@ -1,7 +1,7 @@
 use Rattle.std.proofs.Common.{◌≡◌, ◌++◌, length}
 use Rattle.std.specs.List.{flat_map}
 use Rattle.trace_lines.specs.Lines.{spaced_value}
-use Rattle.trace_values.specs.View.{views}
+use Rattle.trace_values.specs.ValueViews.{views}
 use Rattle.trace_recordings.proofs.script.line.values_of.Given as goal
 
 abbrev pub invariant-loop-rest : goal.invariant-loop-rest

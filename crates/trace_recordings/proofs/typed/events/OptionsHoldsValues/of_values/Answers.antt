@@ -1,6 +1,6 @@
 use Rattle.std.proofs.Common.{◌≡◌, ◌++◌, ◌∙◌, ap, take, drop, rules, List}
 use Rattle.trace_values.specs.Values.{Value}
-use Rattle.trace_values.specs.View.{views}
+use Rattle.trace_values.specs.ValueViews.{views}
 use Rattle.trace_values.specs.declared.types.field_value.FieldValue.{FieldValue}
 use Rattle.trace_samples.specs.OptionalFields.{optional_texts}
 use Rattle.trace_recordings.proofs.EventValues.{views_parts}

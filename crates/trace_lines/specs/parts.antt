@@ -1,0 +1,4 @@
+pub mod Lines
+pub mod PieceDumps
+pub mod Program
+pub mod Sent

@@ -1,0 +1,3 @@
+pub mod Dense
+pub mod Interned
+pub mod Used
