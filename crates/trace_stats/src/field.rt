@@ -1,0 +1,46 @@
+//! What is kept of the values of a field.
+
+ghost use Rattle.std.specs.Prelude.{◌≡◌, ◌++◌, ◌∷◌, [], List, OnOk, OnErr};
+ghost use Rattle.trace_values.specs.Values.{Value};
+ghost use Rattle.trace_stats.specs.Fields.{IsFieldOf, measure_of};
+
+use crate::full::Full;
+use crate::measure::Measure;
+use crate::summary::Summary;
+
+/// What the values of a field add up to: the numbers from 0 on, how far the others lie below 0, and how long texts,
+/// bytes and stacks are. Other values are in none of these.
+#[derive(Debug, Drop)]
+pub struct FieldStats {
+    naturals: Summary,
+    negatives: Summary,
+    lengths: Summary,
+}
+
+impl FieldStats {
+    /// Of no value.
+    pub fn new() -> FieldStats
+        ensures { IsFieldOf [] result }
+    {
+        FieldStats {
+            naturals: Summary::new(),
+            negatives: Summary::new(),
+            lengths: Summary::new(),
+        }
+    }
+
+    /// Counts a value too, by what is counted of it. `Full` where no more can be counted: then nothing changes.
+    pub(crate) fn add(&mut self, measure: Measure) -> Result<(), Full>
+        ensures added { OnOk result
+            ((vs : List Value) (v : Value) → measure ≡ measure_of v → IsFieldOf vs self.old
+            → IsFieldOf (vs ++ v ∷ []) self.new) }
+        ensures same { OnErr result (self.new ≡ self.old) }
+    {
+        match measure {
+            Measure::Natural(number) => self.naturals.add(number),
+            Measure::Negative(number) => self.negatives.add(number),
+            Measure::Length(length) => self.lengths.add(length),
+            Measure::Nothing => Ok(()),
+        }
+    }
+}
