@@ -5,8 +5,8 @@ use Rattle.std.specs.List.{All, Contains, count_by}
 use Rattle.std.proofs.lemmas.Bool.{eqb-true, eqb-false}
 use Rattle.std.proofs.lemmas.List.{get_or-replicate, get_or-set_same, get_or-set_other}
 use Rattle.std.proofs.lemmas.List.Elements.{All-nil, All-push, Contains-push, Contains-append_left}
-use Rattle.std.proofs.lemmas.List.Sums.{sum_by_push}
-use Rattle.trace_stats.specs.Summaries.{IsSummaryOf, binary_digits}
+use Rattle.std.proofs.lemmas.List.Sums.{sum_by_push, sum_by-le}
+use Rattle.trace_stats.specs.Summaries.{IsSummaryOf, binary_digits, most_counted}
 use Rattle.trace_stats.specs.declared.summary.Summary.{Summary}
 
 -- ---- the least and the greatest
@@ -88,3 +88,14 @@ no_number s count total digits = record {
   sum = total;
   by_digits = λ k le. ap (λ (l : List ℕ). get_or l k 0) digits ∙ get_or-replicate 65 k 0 0 (omega arith);
 }
+
+-- ---- where no more can be counted
+
+-- the sum would be past 128 bits
+pub sum_full :
+    (xs : List ℕ) (n : ℕ) (s : Summary) → IsSummaryOf xs s → s.greatest < 18446744073709551616 →
+    n < 18446744073709551616 → 340282366920938463463374607431768211456 ≤ s.sum + n → most_counted ≤ length xs
+sum_full xs n s is fits fits_n over =
+    let each : All (λ x. x ≤ most_counted) xs =
+    λ k d here. let a : get_or xs k d ≤ s.greatest = is.none_greater k d here in omega arith in
+    omega (arith, sum_by-le (λ x. x) most_counted xs each, is.sum)

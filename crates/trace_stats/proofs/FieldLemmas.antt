@@ -1,9 +1,10 @@
 -- One value more of a field.
-use Rattle.std.proofs.Common.{◌≡◌, ℕ, List, [], ◌∷◌, ◌++◌, refl, sym, ap, subst, ◌∙◌, append-nil, Result, Ok, Err, OnOk}
+use Rattle.std.proofs.Common.{◌≡◌, ◌≤◌, ℕ, arith, length, length-append, OnErr}
+use Rattle.std.proofs.Common.{List, [], ◌∷◌, ◌++◌, refl, sym, ap, subst, ◌∙◌, append-nil, Result, Ok, Err, OnOk}
 use Rattle.std.specs.List.{flat_map}
 use Rattle.std.proofs.lemmas.List.{flat_map_more}
 use Rattle.trace_values.specs.Values.{Value}
-use Rattle.trace_stats.specs.Summaries.{IsSummaryOf}
+use Rattle.trace_stats.specs.Summaries.{IsSummaryOf, most_counted}
 use Rattle.trace_stats.specs.Fields.{IsFieldOf, measure_of, natural_in, negative_in, length_in}
 use Rattle.trace_stats.specs.declared.field.FieldStats.{FieldStats}
 use Rattle.trace_stats.specs.declared.measure.Measure.{Measure}
@@ -88,3 +89,58 @@ pub by_measure :
     {E : Type 0} (r : Result (Unit {0}) E) (m k : Measure) (old new : FieldStats) → m ≡ k →
     OnOk r (AddsValue k old new) → OnOk r (AddsValue m old new)
 by_measure r m k old new is added = subst (λ (x : Measure). OnOk r (AddsValue x old new)) (sym is) added
+
+-- ---- where no more can be counted
+
+-- what is counted of values in a way that counts one thing of each at most
+abbrev CountsOne : (Measure → List ℕ) → Type 0
+CountsOne f = (m : Measure) → length (f m) ≤ 1
+
+-- there are no more of them than values
+counted_few : (f : Measure → List ℕ) → CountsOne f → (vs : List Value) → length (counted_of f vs) ≤ length vs
+counted_few f one [] = omega arith
+counted_few f one (v ∷ vs) =
+    omega (arith, length-append (f (measure_of v)) (counted_of f vs), one (measure_of v), counted_few f one vs)
+
+one_natural : CountsOne natural_in
+one_natural (Natural n) = omega arith
+one_natural (Negative n) = omega arith
+one_natural (Length n) = omega arith
+one_natural Nothing = omega arith
+
+one_negative : CountsOne negative_in
+one_negative (Natural n) = omega arith
+one_negative (Negative n) = omega arith
+one_negative (Length n) = omega arith
+one_negative Nothing = omega arith
+
+one_length : CountsOne length_in
+one_length (Natural n) = omega arith
+one_length (Negative n) = omega arith
+one_length (Length n) = omega arith
+one_length Nothing = omega arith
+
+-- a summary counts no more, and so does the field
+abbrev pub IsFullSummary : Summary → Type 0
+IsFullSummary s = (xs : List ℕ) → IsSummaryOf xs s → most_counted ≤ length xs
+
+abbrev pub IsFullField : FieldStats → Type 0
+IsFullField f = (vs : List Value) → IsFieldOf vs f → most_counted ≤ length vs
+
+pub naturals_full :
+    {E : Type 0} (r : Result (Unit {0}) E) (f : FieldStats) → OnErr r (IsFullSummary f.naturals) → OnErr r (IsFullField f)
+naturals_full (Ok u) f full = tt
+naturals_full (Err e) f full = λ vs h.
+    omega (arith, counted_few natural_in one_natural vs, full (counted_of natural_in vs) h.naturals)
+
+pub negatives_full :
+    {E : Type 0} (r : Result (Unit {0}) E) (f : FieldStats) → OnErr r (IsFullSummary f.negatives) → OnErr r (IsFullField f)
+negatives_full (Ok u) f full = tt
+negatives_full (Err e) f full = λ vs h.
+    omega (arith, counted_few negative_in one_negative vs, full (counted_of negative_in vs) h.negatives)
+
+pub lengths_full :
+    {E : Type 0} (r : Result (Unit {0}) E) (f : FieldStats) → OnErr r (IsFullSummary f.lengths) → OnErr r (IsFullField f)
+lengths_full (Ok u) f full = tt
+lengths_full (Err e) f full = λ vs h.
+    omega (arith, counted_few length_in one_length vs, full (counted_of length_in vs) h.lengths)

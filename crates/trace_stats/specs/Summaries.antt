@@ -7,6 +7,10 @@ use Rattle.trace_stats.specs.declared.summary.Summary.{Summary}
 abbrev pub binary_digits : ℕ → ℕ
 binary_digits x = 64 - leading_zeros w64 x
 
+-- how many can be counted
+abbrev pub most_counted : ℕ
+most_counted = 18446744073709551615
+
 -- of a list: how many there are; the least and the greatest, where there are any; their sum; and how many there are of
 -- each number of binary digits
 pub record IsSummaryOf (xs : List ℕ) (s : Summary) : Type 0 where

@@ -1,7 +1,8 @@
 //! What is kept of numbers that are counted.
 
-ghost use Rattle.std.specs.Prelude.{◌≡◌, ◌<◌, ◌≤◌, ◌++◌, ◌∷◌, ◌⊎◌, [], ℕ, List, OnOk, OnErr};
-ghost use Rattle.trace_stats.specs.Summaries.{IsSummaryOf};
+ghost use Rattle.std.specs.Prelude.{◌≡◌, ◌<◌, ◌≤◌, ◌++◌, ◌∷◌, ◌⊎◌, ◌==◌, [], ℕ, List, cond, None, Some};
+ghost use Rattle.std.specs.Prelude.{OnOk, OnErr, length};
+ghost use Rattle.trace_stats.specs.Summaries.{IsSummaryOf, most_counted};
 
 use crate::full::Full;
 
@@ -30,10 +31,12 @@ impl Summary {
         }
     }
 
-    /// Counts a number too. `Full` where 2^64 - 1 numbers were counted: then nothing changes.
+    /// Counts a number too. `Full` only where 2^64 - 1 numbers were counted: then nothing changes.
     pub fn add(&mut self, number: u64) -> Result<(), Full>
         ensures added { OnOk result
             ((xs : List ℕ) → IsSummaryOf xs self.old → IsSummaryOf (xs ++ number ∷ []) self.new) }
+        ensures full { OnErr result
+            ((xs : List ℕ) → IsSummaryOf xs self.old → most_counted ≤ length xs) }
         ensures same { OnErr result (self.new ≡ self.old) }
     {
         let digits = 64 - number.leading_zeros() as usize;
@@ -52,6 +55,50 @@ impl Summary {
         self.sum = sum;
         self.by_digits[digits] = of_digits;
         Ok(())
+    }
+
+    /// How many numbers were counted.
+    pub fn count(&self) -> u64
+        ensures { result ≡ self.now.count }
+    {
+        self.count
+    }
+
+    /// The least of them, where there are any.
+    pub fn least(&self) -> Option<u64>
+        ensures { result ≡ cond (self.now.count == 0) None (Some self.now.least) }
+    {
+        if self.count == 0 {
+            None
+        } else {
+            Some(self.least)
+        }
+    }
+
+    /// The greatest of them, where there are any.
+    pub fn greatest(&self) -> Option<u64>
+        ensures { result ≡ cond (self.now.count == 0) None (Some self.now.greatest) }
+    {
+        if self.count == 0 {
+            None
+        } else {
+            Some(self.greatest)
+        }
+    }
+
+    /// Their sum.
+    pub fn sum(&self) -> u128
+        ensures { result ≡ self.now.sum }
+    {
+        self.sum
+    }
+
+    /// How many of them have 0, 1 and so on up to 64 binary digits: 0 has none, and n digits have those from 2^(n - 1) up
+    /// to 2^n - 1.
+    pub fn by_digits(&self) -> &[u64; 65]
+        ensures { result.now ≡ self.now.by_digits }
+    {
+        &self.by_digits
     }
 }
 

@@ -1,6 +1,6 @@
-use Rattle.std.proofs.Common.{◌≡◌, ◌+◌, ◌<◌, ap, ℕ, length, get_or, set, rules}
+use Rattle.std.proofs.Common.{◌≡◌, ◌+◌, ◌<◌, ◌≤◌, ap, ℕ, length, get_or, set, rules}
 use Rattle.trace_stats.specs.Summaries.{binary_digits}
-use Rattle.trace_stats.proofs.Counting.{one_number_more}
+use Rattle.trace_stats.proofs.Counting.{one_number_more, sum_full}
 use Rattle.trace_stats.proofs.summary.Summary.add.Goals as goal
 
 pub returns-clause-added : goal.returns-clause-added
@@ -15,3 +15,11 @@ returns-clause-added c xs s =
     c.lesser-self.ensures.which c.greater-self.ensures.above c.greater-self.ensures.others
     c.greater-self.ensures.which total lt
     (ap (λ (n : ℕ). set old.by_digits (binary_digits c.args.number) n) more)
+
+pub returns-in_default-checked_add-clause-full : goal.returns-in_default-checked_add-clause-full
+returns-in_default-checked_add-clause-full c xs s =
+    let old = c.args.self.now in
+    let fits : old.greatest < 18446744073709551616 = search rules in
+    let fits_n : c.args.number < 18446744073709551616 = search rules in
+    let over : 340282366920938463463374607431768211456 ≤ old.sum + c.args.number = search rules in
+    sum_full xs c.args.number old s fits fits_n over
