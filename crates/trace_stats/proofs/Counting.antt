@@ -16,14 +16,16 @@ pub none_less_more :
     All (λ x. old ≤ x) xs → All (λ x. new ≤ x) (xs ++ n ∷ [])
 none_less_more xs n old new count is le others all =
     All-push (λ x. new ≤ x) xs n
-    (λ k d here. let below : new ≤ old = others (omega arith) in let a : old ≤ get_or xs k d = all k d here in omega arith) le
+    (λ k d here.
+    let below : new ≤ old = others (omega arith) in let a : old ≤ get_or xs k d = all k d here in omega arith) le
 
 pub none_greater_more :
     (xs : List ℕ) (n old new count : ℕ) → count ≡ length xs → n ≤ new → (0 < count → old ≤ new) →
     All (λ x. x ≤ old) xs → All (λ x. x ≤ new) (xs ++ n ∷ [])
 none_greater_more xs n old new count is le others all =
     All-push (λ x. x ≤ new) xs n
-    (λ k d here. let above : old ≤ new = others (omega arith) in let a : get_or xs k d ≤ old = all k d here in omega arith) le
+    (λ k d here.
+    let above : old ≤ new = others (omega arith) in let a : get_or xs k d ≤ old = all k d here in omega arith) le
 
 pub one_of_them :
     (xs : List ℕ) (n old new count : ℕ) → count ≡ length xs → (new ≡ n) ⊎ ((0 < count) × (new ≡ old)) →
@@ -57,6 +59,7 @@ by_digits_more xs n l k lt is =
 
 -- ---- all of it
 
+-- a number was counted too
 pub one_number_more :
     (xs : List ℕ) (n : ℕ) (old new : Summary) → IsSummaryOf xs old → new.count ≡ old.count + 1 →
     new.least ≤ n → (0 < old.count → new.least ≤ old.least) →

@@ -39,13 +39,16 @@ grows f vs v m n s t is one add h =
     counted_more f vs v m is ∙ ap (λ (l : List ℕ). counted_of f vs ++ l) one in
     subst (λ (l : List ℕ). IsSummaryOf l t) (sym same) (add (counted_of f vs) h)
 
+-- a number was added
 abbrev pub Adds : ℕ → Summary → Summary → Type 0
 Adds n s t = (xs : List ℕ) → IsSummaryOf xs s → IsSummaryOf (xs ++ n ∷ []) t
 
+-- a value was added, of which this is counted
 abbrev pub AddsValue : Measure → FieldStats → FieldStats → Type 0
 AddsValue m old new =
     (vs : List Value) (v : Value) → m ≡ measure_of v → IsFieldOf vs old → IsFieldOf (vs ++ v ∷ []) new
 
+-- where a summary took a number from 0 on, the field took the value
 pub natural_added :
     {E : Type 0} (r : Result (Unit {0}) E) (n : ℕ) (old : FieldStats) (t : Summary) → OnOk r (Adds n old.naturals t) →
     OnOk r (AddsValue (Natural n) old (record { naturals = t; negatives = old.negatives; lengths = old.lengths }))
@@ -56,6 +59,7 @@ natural_added (Ok u) n old t add = λ vs v is h. record {
 }
 natural_added (Err e) n old t add = tt
 
+-- the same of a number below 0
 pub negative_added :
     {E : Type 0} (r : Result (Unit {0}) E) (n : ℕ) (old : FieldStats) (t : Summary) → OnOk r (Adds n old.negatives t) →
     OnOk r (AddsValue (Negative n) old (record { naturals = old.naturals; negatives = t; lengths = old.lengths }))
@@ -66,6 +70,7 @@ negative_added (Ok u) n old t add = λ vs v is h. record {
 }
 negative_added (Err e) n old t add = tt
 
+-- the same of a length
 pub length_added :
     {E : Type 0} (r : Result (Unit {0}) E) (n : ℕ) (old : FieldStats) (t : Summary) → OnOk r (Adds n old.lengths t) →
     OnOk r (AddsValue (Length n) old (record { naturals = old.naturals; negatives = old.negatives; lengths = t }))
@@ -76,6 +81,7 @@ length_added (Ok u) n old t add = λ vs v is h. record {
 }
 length_added (Err e) n old t add = tt
 
+-- a value of which nothing is counted
 pub nothing_added : (m : Measure) (old : FieldStats) → m ≡ Nothing → AddsValue m old old
 nothing_added m old none vs v is h =
     let here : Nothing ≡ measure_of v = sym none ∙ is in record {
@@ -84,7 +90,7 @@ nothing_added m old none vs v is h =
       lengths = stays length_in vs v Nothing old.lengths here refl h.lengths;
     }
 
--- by what was counted
+-- a value was added, by what was counted of it
 pub by_measure :
     {E : Type 0} (r : Result (Unit {0}) E) (m k : Measure) (old new : FieldStats) → m ≡ k →
     OnOk r (AddsValue k old new) → OnOk r (AddsValue m old new)
@@ -120,27 +126,34 @@ one_length (Negative n) = omega arith
 one_length (Length n) = omega arith
 one_length Nothing = omega arith
 
--- a summary counts no more, and so does the field
+-- no more numbers can be counted
 abbrev pub IsFullSummary : Summary → Type 0
 IsFullSummary s = (xs : List ℕ) → IsSummaryOf xs s → most_counted ≤ length xs
 
+-- no more values can be counted
 abbrev pub IsFullField : FieldStats → Type 0
 IsFullField f = (vs : List Value) → IsFieldOf vs f → most_counted ≤ length vs
 
+-- a field counts no more where its summary of the numbers from 0 on counts no more
 pub naturals_full :
-    {E : Type 0} (r : Result (Unit {0}) E) (f : FieldStats) → OnErr r (IsFullSummary f.naturals) → OnErr r (IsFullField f)
+    {E : Type 0} (r : Result (Unit {0}) E) (f : FieldStats) → OnErr r (IsFullSummary f.naturals) →
+    OnErr r (IsFullField f)
 naturals_full (Ok u) f full = tt
 naturals_full (Err e) f full = λ vs h.
     omega (arith, counted_few natural_in one_natural vs, full (counted_of natural_in vs) h.naturals)
 
+-- the same of the numbers below 0
 pub negatives_full :
-    {E : Type 0} (r : Result (Unit {0}) E) (f : FieldStats) → OnErr r (IsFullSummary f.negatives) → OnErr r (IsFullField f)
+    {E : Type 0} (r : Result (Unit {0}) E) (f : FieldStats) → OnErr r (IsFullSummary f.negatives) →
+    OnErr r (IsFullField f)
 negatives_full (Ok u) f full = tt
 negatives_full (Err e) f full = λ vs h.
     omega (arith, counted_few negative_in one_negative vs, full (counted_of negative_in vs) h.negatives)
 
+-- the same of the lengths
 pub lengths_full :
-    {E : Type 0} (r : Result (Unit {0}) E) (f : FieldStats) → OnErr r (IsFullSummary f.lengths) → OnErr r (IsFullField f)
+    {E : Type 0} (r : Result (Unit {0}) E) (f : FieldStats) → OnErr r (IsFullSummary f.lengths) →
+    OnErr r (IsFullField f)
 lengths_full (Ok u) f full = tt
 lengths_full (Err e) f full = λ vs h.
     omega (arith, counted_few length_in one_length vs, full (counted_of length_in vs) h.lengths)

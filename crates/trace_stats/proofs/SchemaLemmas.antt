@@ -1,6 +1,7 @@
 -- One event more of a schema.
-use Rattle.std.proofs.Common.{◌≡◌, ◌<◌, ◌≤◌, ◌⊎◌, inl, inr, ◌+◌, ℕ, List, [], ◌∷◌, ◌++◌, length, get_or, take, drop, set}
-use Rattle.std.proofs.Common.{map as list_map, refl, sym, ap, subst, ◌∙◌, suc, append-nil, length-append, arith, Result, Ok, Err, OnOk}
+use Rattle.std.proofs.Common.{◌≡◌, ◌<◌, ◌≤◌, ◌⊎◌, inl, inr, ◌+◌, ℕ, List, [], ◌∷◌, ◌++◌, length, get_or}
+use Rattle.std.proofs.Common.{take, drop, set, map as list_map, refl, sym, ap, subst, ◌∙◌, suc, append-nil, arith}
+use Rattle.std.proofs.Common.{length-append, Result, Ok, Err, OnOk}
 use Rattle.std.proofs.Math.Seq.{drop-cons}
 use Rattle.std.proofs.lemmas.Bool.{cases_eq}
 use Rattle.std.proofs.lemmas.List.{drop_all, flat_map_more, map_push, length-map, get_or_default}
@@ -14,8 +15,9 @@ use Rattle.trace_values.specs.declared.types.borrowed.FieldValueRef.{FieldValueR
 use Rattle.trace_wire.specs.Schemas.{Entry}
 use Rattle.dial9_trace_format.specs.Resolving.{in_full}
 use Rattle.dial9_trace_format.specs.ShownEvents.{ShownEvent}
-use Rattle.trace_stats.specs.Summaries.{IsSummaryOf}
+use Rattle.trace_stats.specs.Summaries.{IsSummaryOf, most_counted}
 use Rattle.trace_stats.specs.Events.{Counted, value_at, column, AreFieldsOf, IsSchemaOf, AddsAt, AddsValues}
+use Rattle.trace_stats.specs.Events.{IsFullAt}
 use Rattle.trace_stats.specs.Fields.{IsFieldOf, measure_of}
 use Rattle.trace_stats.specs.declared.measure.Measure.{Measure}
 use Rattle.trace_stats.specs.declared.field.FieldStats.{FieldStats}
@@ -30,6 +32,7 @@ pub record AddedBelow (i : ℕ) (e : ShownEvent) (old new : List FieldStats) : T
       IsFieldOf (vs ++ value_at k e) (get_or new k d)
   pub rest : (k : ℕ) (d : FieldStats) → i ≤ k → get_or new k d ≡ get_or old k d
 
+-- before the first index
 pub none_below : (e : ShownEvent) (fs : List FieldStats) → AddedBelow 0 e fs fs
 none_below e fs = record {
   count = refl;
@@ -50,6 +53,7 @@ below_next i e old mid new s one k d vs lt h (inr other) =
     let less : k < i = omega arith in
     subst (λ (f : FieldStats). IsFieldOf (vs ++ value_at k e) f) (sym (one.others k d other)) (s.below k d vs less h)
 
+-- the value of the next index was added too
 pub one_below :
     (i : ℕ) (e : ShownEvent) (old mid new : List FieldStats) → AddedBelow i e old mid → length new ≡ length mid →
     AddsAt i e mid new → AddedBelow (i + 1) e old new
@@ -59,6 +63,7 @@ one_below i e old mid new s count one = record {
   rest = λ k d le. one.others k d (λ is. absurd (omega (arith, is, le))) ∙ s.rest k d (omega arith);
 }
 
+-- the values of all indices were added
 pub all_added :
     (i : ℕ) (e : ShownEvent) (old new : List FieldStats) → length old ≤ i → AddedBelow i e old new →
     AddsValues e old new
@@ -69,9 +74,11 @@ all_added i e old new le s = record {
 
 -- ---- fields of no values
 
+-- no field
 pub none_made : (fs : List FieldStats) → fs ≡ [] → AreFieldsOf 0 [] fs
 none_made fs none = record { count = ap length none; columns = λ i d lt. absurd (omega arith) }
 
+-- a field of no values more
 pub one_made :
     (n : ℕ) (fs gs : List FieldStats) (f : FieldStats) → AreFieldsOf n [] fs → gs ≡ fs ++ f ∷ [] → IsFieldOf [] f →
     AreFieldsOf (n + 1) [] gs
@@ -92,9 +99,11 @@ value_here e i v lt is =
     ap (λ (l : List Value). list_map (in_full e.pools) (take 1 l))
     (drop-cons e.values i v lt ∙ ap (λ (x : Value). x ∷ drop (suc i) e.values) (sym is))
 
+-- no value, where the event has none of the index
 pub no_value : (e : ShownEvent) (i : ℕ) → length e.values ≤ i → value_at i e ≡ []
 no_value e i le = ap (λ (l : List Value). list_map (in_full e.pools) (take 1 l)) (drop_all i e.values le)
 
+-- nothing was added, where there is no value of the index
 pub nothing_at : (i : ℕ) (e : ShownEvent) (fs : List FieldStats) → value_at i e ≡ [] → AddsAt i e fs fs
 nothing_at i e fs none = record {
   here = λ d vs h. subst (λ (l : List Value). IsFieldOf l (get_or fs i d))
@@ -146,6 +155,7 @@ event_more es c old new s same times bytes fields = record {
       (columns_more (length old.schema.fields) es c old.fields.items new.fields.items s.fields fields);
 }
 
+-- where the fields took the values of an event, its time and its bytes were counted
 pub event_added :
     {E : Type 0} (r : Result (Unit {0}) E) (c : Counted) (old new : SchemaStats) → new.schema ≡ old.schema →
     ((xs : List ℕ) → IsSummaryOf xs old.times → IsSummaryOf (xs ++ c.event.time ∷ []) new.times) →
@@ -155,6 +165,7 @@ pub event_added :
 event_added (Ok u) c old new same times bytes fields = λ es s. event_more es c old new s same times bytes fields
 event_added (Err x) c old new same times bytes fields = tt
 
+-- a schema of no events
 pub schema_made :
     (s : SchemaStats) (n : ℕ) → IsSummaryOf [] s.times → IsSummaryOf [] s.bytes → AreFieldsOf n [] s.fields.items →
     n ≡ length s.schema.fields → IsSchemaOf [] s
@@ -166,6 +177,7 @@ schema_made s n times bytes fields is = record {
 
 -- ---- the value of an index, where it was found
 
+-- the value of an index, by where it was found
 pub value_in :
     (e : ShownEvent) (fs : List FieldValueRef) (i : ℕ) (x : FieldValueRef) → e.values ≡ ref_views fs → i < length fs →
     x ≡ get_or fs i x → value_at i e ≡ in_full e.pools (ref_view x) ∷ []
@@ -176,6 +188,7 @@ value_in e fs i x is lt at =
     ∙ ap (λ (l : List Value). get_or l i (ref_view x)) (sym is) in
     value_here e i (ref_view x) (omega (arith, many, lt)) here
 
+-- where a field took the value of its index, that was added
 pub one_added :
     {E : Type 0} (r : Result (Unit {0}) E) (i : ℕ) (e : ShownEvent) (v : Value) (old new : List FieldStats)
     (f g : FieldStats) (m : Measure) → i < length old →
@@ -185,3 +198,32 @@ pub one_added :
 one_added (Ok u) i e v old new f g m lt one at put is add =
     one_at i e v old new f g lt one at put (λ vs h. add vs v is h)
 one_added (Err x) i e v old new f g m lt one at put is add = tt
+
+-- ---- where no more can be counted
+
+-- one at most
+few : (f : Value → Value) (vs : List Value) → length (list_map f (take 1 vs)) ≤ 1
+few f [] = omega arith
+few f (v ∷ vs) = omega arith
+
+-- there are no more values of an index than events
+column_few : (i : ℕ) (es : List Counted) → length (column i es) ≤ length es
+column_few i [] = omega arith
+column_few i (c ∷ es) =
+    omega (
+      arith,
+      length-append (value_at i c.event) (column i es),
+      few (in_full c.event.pools) (drop i c.event.values),
+      column_few i es,
+    )
+
+-- no more values of an index can be counted, and so no more events
+pub fields_full :
+    (i n : ℕ) (e : ShownEvent) (es : List Counted) (old mid : List FieldStats) → i < length old →
+    AddedBelow i e old mid → IsFullAt i mid → AreFieldsOf n es old → most_counted ≤ length es
+fields_full i n e es [] mid lt s full h = absurd (omega arith)
+fields_full i n e es (f ∷ fs) mid lt s full h =
+    let has : IsFieldOf (column i es) (get_or mid i f) =
+    subst (λ (g : FieldStats). IsFieldOf (column i es) g) (sym (s.rest i f (omega arith)))
+    (h.columns i f (omega (arith, lt, h.count))) in
+    omega (arith, column_few i es, full f (column i es) has)

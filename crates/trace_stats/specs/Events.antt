@@ -1,12 +1,12 @@
 -- What is kept of the events of a schema.
-use Rattle.std.specs.Prelude.{◌≡◌, ◌≢◌, ◌<◌, ℕ, List, [], ◌++◌, length, get_or, take, drop}
+use Rattle.std.specs.Prelude.{◌≡◌, ◌≢◌, ◌<◌, ◌≤◌, ℕ, List, [], ◌++◌, length, get_or, take, drop}
 use Rattle.std.specs.Prelude.{map as list_map}
 use Rattle.std.specs.List.{flat_map}
 use Rattle.trace_values.specs.Values.{Value}
 use Rattle.trace_wire.specs.Schemas.{Entry}
 use Rattle.dial9_trace_format.specs.Resolving.{in_full}
 use Rattle.dial9_trace_format.specs.ShownEvents.{ShownEvent}
-use Rattle.trace_stats.specs.Summaries.{IsSummaryOf}
+use Rattle.trace_stats.specs.Summaries.{IsSummaryOf, most_counted}
 use Rattle.trace_stats.specs.Fields.{IsFieldOf}
 use Rattle.trace_stats.specs.declared.field.FieldStats.{FieldStats}
 use Rattle.trace_stats.specs.declared.schema.SchemaStats.{SchemaStats}
@@ -53,3 +53,11 @@ pub record AddsValues (e : ShownEvent) (old new : List FieldStats) : Type 0 wher
   pub count : length new ≡ length old
   pub added : (i : ℕ) (d : FieldStats) (vs : List Value) → i < length old → IsFieldOf vs (get_or old i d) →
       IsFieldOf (vs ++ value_at i e) (get_or new i d)
+
+-- no more values of an index can be counted
+abbrev pub IsFullAt : ℕ → List FieldStats → Type 0
+IsFullAt i fs = (d : FieldStats) (vs : List Value) → IsFieldOf vs (get_or fs i d) → most_counted ≤ length vs
+
+-- no more values of some index can
+abbrev pub AreFull : List FieldStats → Type 0
+AreFull fs = (n : ℕ) (es : List Counted) → AreFieldsOf n es fs → most_counted ≤ length es

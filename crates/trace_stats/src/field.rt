@@ -30,7 +30,8 @@ impl FieldStats {
         }
     }
 
-    /// Counts a value too, by what is counted of it. `Full` only where 2^64 - 1 values were counted: then nothing changes.
+    /// Counts a value too, by what is counted of it. `Full` only where 2^64 - 1 values were counted: then nothing
+    /// changes.
     pub(crate) fn add(&mut self, measure: Measure) -> Result<(), Full>
         ensures added { OnOk result
             ((vs : List Value) (v : Value) → measure ≡ measure_of v → IsFieldOf vs self.old

@@ -1,8 +1,10 @@
 //! What is kept of the events of a schema.
 
-ghost use Rattle.std.specs.Prelude.{◌≡◌, ◌<◌, ◌++◌, ◌∷◌, [], List, IfOk, OnOk, length};
+ghost use Rattle.std.specs.Prelude.{◌≡◌, ◌<◌, ◌≤◌, ◌++◌, ◌∷◌, [], List, IfOk, OnOk, OnErr, length};
 ghost use Rattle.dial9_trace_format.specs.ShownEvents.{shown_event};
+ghost use Rattle.trace_stats.specs.Summaries.{most_counted};
 ghost use Rattle.trace_stats.specs.Events.{Counted, counted, bare, AreFieldsOf, IsSchemaOf, AddsAt, AddsValues};
+ghost use Rattle.trace_stats.specs.Events.{IsFullAt, AreFull};
 
 use crate::field::FieldStats;
 use crate::full::Full;
@@ -38,12 +40,15 @@ impl SchemaStats {
         })
     }
 
-    /// Counts an event of so many bytes too. `Full` where no more can be counted: then a part of the event is.
+    /// Counts an event of so many bytes too. `Full` only where 2^64 - 1 events were counted: then a part of this one
+    /// is.
     pub fn add(&mut self, event: &RawEvent<'_, '_>, bytes: u64) -> Result<(), Full>
         ensures schema { self.new.schema ≡ self.old.schema }
         ensures added { OnOk result
             ((es : List Counted) → IsSchemaOf es self.old
             → IsSchemaOf (es ++ counted (shown_event event.now) bytes ∷ []) self.new) }
+        ensures full { OnErr result
+            ((es : List Counted) → IsSchemaOf es self.old → most_counted ≤ length es) }
     {
         tri!(self.times.add(event.timestamp_ns));
         tri!(self.bytes.add(bytes));
@@ -93,7 +98,9 @@ fn of_no_values(alloc: Global, count: usize) -> Result<Vec<FieldStats>, AllocErr
 
 // Counts each value of an event too.
 fn add_values(fields: &mut Vec<FieldStats>, event: &RawEvent<'_, '_>) -> Result<(), Full>
-    ensures { OnOk result (AddsValues (shown_event event.now) fields.old.items fields.new.items) }
+    ensures added { OnOk result
+        (AddsValues (shown_event event.now) fields.old.items fields.new.items) }
+    ensures full { OnErr result (AreFull fields.old.items) }
 {
     'fields: for index in 0..fields.len() {
         tri!(add_value(fields, event, index));
@@ -111,6 +118,7 @@ fn add_value(
     ensures count { length fields.new.items ≡ length fields.old.items }
     ensures added { OnOk result
         (AddsAt index (shown_event event.now) fields.old.items fields.new.items) }
+    ensures full { OnErr result (IsFullAt index fields.old.items) }
 {
     match event.fields.get(index) {
         Some(value) => fields[index].add(measure_of(event.string_pool, event.stack_pool, value)),

@@ -93,8 +93,8 @@ impl Summary {
         self.sum
     }
 
-    /// How many of them have 0, 1 and so on up to 64 binary digits: 0 has none, and n digits have those from 2^(n - 1) up
-    /// to 2^n - 1.
+    /// How many of them have 0, 1 and so on up to 64 binary digits: the number 0 has none, and those from 2^(n - 1) to
+    /// 2^n - 1 have n.
     pub fn by_digits(&self) -> &[u64; 65]
         ensures { result.now ≡ self.now.by_digits }
     {

@@ -23,7 +23,9 @@ pub returns-in-Natural-clause-full : goal.returns-in-Natural-clause-full
 returns-in-Natural-clause-full c = naturals_full c.add.result c.args.self.now c.add.ensures.full
 
 pub returns-in-Negative-clause-full : goal.returns-in-Negative-clause-full
-returns-in-Negative-clause-full c = negatives_full c.add-in-Negative.result c.args.self.now c.add-in-Negative.ensures.full
+returns-in-Negative-clause-full c =
+    negatives_full c.add-in-Negative.result c.args.self.now c.add-in-Negative.ensures.full
 
 pub returns-in-Length-clause-full : goal.returns-in-Length-clause-full
-returns-in-Length-clause-full c = lengths_full c.add-in-Length.result c.args.self.now c.add-in-Length.ensures.full
+returns-in-Length-clause-full c =
+    lengths_full c.add-in-Length.result c.args.self.now c.add-in-Length.ensures.full
