@@ -6,3 +6,5 @@ pub mod full;
 mod measure;
 pub mod schema;
 pub mod summary;
+#[cfg(test)]
+mod tests;
