@@ -1,0 +1,10 @@
+//! What the events of a trace add up to (docs/MODEL.md, "Statistics").
+#![tactic(auto)]
+
+pub mod field;
+pub mod full;
+mod measure;
+pub mod schema;
+pub mod summary;
+#[cfg(test)]
+mod tests;
