@@ -61,7 +61,8 @@ natural_added (Err e) n old t add = tt
 
 -- the same of a number below 0
 pub negative_added :
-    {E : Type 0} (r : Result (Unit {0}) E) (n : ℕ) (old : FieldStats) (t : Summary) → OnOk r (Adds n old.negatives t) →
+    {E : Type 0} (r : Result (Unit {0}) E) (n : ℕ) (old : FieldStats) (t : Summary) → OnOk r (Adds n old.negatives t)
+    →
     OnOk r (AddsValue (Negative n) old (record { naturals = old.naturals; negatives = t; lengths = old.lengths }))
 negative_added (Ok u) n old t add = λ vs v is h. record {
   naturals = stays natural_in vs v (Negative n) old.naturals is refl h.naturals;

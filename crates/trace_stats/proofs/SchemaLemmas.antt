@@ -1,12 +1,12 @@
 -- One event more of a schema.
-use Rattle.std.proofs.Common.{◌≡◌, ◌<◌, ◌≤◌, ◌⊎◌, inl, inr, ◌+◌, ℕ, List, [], ◌∷◌, ◌++◌, length, get_or}
-use Rattle.std.proofs.Common.{take, drop, set, map as list_map, refl, sym, ap, subst, ◌∙◌, suc, append-nil, arith}
-use Rattle.std.proofs.Common.{length-append, Result, Ok, Err, OnOk}
+use Rattle.std.proofs.Common.{◌≡◌, ◌<◌, ◌≤◌, ◌⊎◌, inl, inr, ◌+◌, ℕ, List, [], ◌∷◌, ◌++◌, length, get_or, take, drop}
+use Rattle.std.proofs.Common.{set, map as list_map, refl, sym, ap, subst, ◌∙◌, suc, append-nil, arith, length-append}
+use Rattle.std.proofs.Common.{Result, Ok, Err, OnOk}
 use Rattle.std.proofs.Math.Seq.{drop-cons}
 use Rattle.std.proofs.lemmas.Bool.{cases_eq}
-use Rattle.std.proofs.lemmas.List.{drop_all, flat_map_more, map_push, length-map, get_or_default}
+use Rattle.std.proofs.lemmas.List.{drop_all, flat_map_more, map_push, length-map, get_or_default, get_or-set_same}
+use Rattle.std.proofs.lemmas.List.{get_or-set_other}
 use Rattle.std.proofs.Math.ListN.{get_or-map}
-use Rattle.std.proofs.lemmas.List.{get_or-set_same, get_or-set_other}
 use Rattle.std.proofs.lemmas.List.Elements.{All-push}
 use Rattle.std.specs.List.{All}
 use Rattle.trace_values.specs.Refs.{ref_view, ref_views}
@@ -16,8 +16,8 @@ use Rattle.trace_wire.specs.Schemas.{Entry}
 use Rattle.dial9_trace_format.specs.Resolving.{in_full}
 use Rattle.dial9_trace_format.specs.ShownEvents.{ShownEvent}
 use Rattle.trace_stats.specs.Summaries.{IsSummaryOf, most_counted}
-use Rattle.trace_stats.specs.Events.{Counted, value_at, column, AreFieldsOf, IsSchemaOf, AddsAt, AddsValues}
-use Rattle.trace_stats.specs.Events.{IsFullAt}
+use Rattle.trace_stats.specs.Events.{Counted, value_at, column, AreFieldsOf, IsSchemaOf}
+use Rattle.trace_stats.specs.parts.Events.{AddsAt, AddsValues, IsFullAt}
 use Rattle.trace_stats.specs.Fields.{IsFieldOf, measure_of}
 use Rattle.trace_stats.specs.declared.measure.Measure.{Measure}
 use Rattle.trace_stats.specs.declared.field.FieldStats.{FieldStats}

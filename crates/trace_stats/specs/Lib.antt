@@ -1,3 +1,4 @@
 pub mod Summaries
 pub mod Fields
 pub mod Events
+pub mod parts

@@ -11,8 +11,8 @@ binary_digits x = 64 - leading_zeros w64 x
 abbrev pub most_counted : ℕ
 most_counted = 18446744073709551615
 
--- of a list: how many there are; the least and the greatest, where there are any; their sum; and how many there are of
--- each number of binary digits
+-- of a list: how many there are; the least and the greatest, where there are any; their sum; and how many there are
+-- of each number of binary digits
 pub record IsSummaryOf (xs : List ℕ) (s : Summary) : Type 0 where
   pub count : s.count ≡ length xs
   pub none_less : All (λ x. s.least ≤ x) xs

@@ -2,7 +2,8 @@
 
 ghost use Rattle.std.specs.Prelude.{◌≡◌};
 ghost use Rattle.trace_values.specs.Refs.{ref_view};
-ghost use Rattle.dial9_trace_format.specs.Resolving.{as_pools, in_full};
+ghost use Rattle.dial9_trace_format.specs.parts.Resolving.{as_pools};
+ghost use Rattle.dial9_trace_format.specs.Resolving.{in_full};
 ghost use Rattle.trace_stats.specs.Fields.{measure_of, measure_of_integer};
 
 use trace_values::types::FieldValueRef;

@@ -3,8 +3,8 @@
 ghost use Rattle.std.specs.Prelude.{◌≡◌, ◌<◌, ◌≤◌, ◌++◌, ◌∷◌, [], List, IfOk, OnOk, OnErr, length};
 ghost use Rattle.dial9_trace_format.specs.ShownEvents.{shown_event};
 ghost use Rattle.trace_stats.specs.Summaries.{most_counted};
-ghost use Rattle.trace_stats.specs.Events.{Counted, counted, bare, AreFieldsOf, IsSchemaOf, AddsAt, AddsValues};
-ghost use Rattle.trace_stats.specs.Events.{IsFullAt, AreFull};
+ghost use Rattle.trace_stats.specs.Events.{Counted, counted, bare, AreFieldsOf, IsSchemaOf};
+ghost use Rattle.trace_stats.specs.parts.Events.{AddsAt, AddsValues, IsFullAt, AreFull};
 
 use crate::field::FieldStats;
 use crate::full::Full;

@@ -6,8 +6,8 @@ ghost use Rattle.trace_stats.specs.Summaries.{IsSummaryOf, most_counted};
 
 use crate::full::Full;
 
-/// How many numbers were counted, the least and the greatest of them, their sum, and how many there are of each number
-/// of binary digits. It takes no memory but its own.
+/// How many numbers were counted, the least and the greatest of them, their sum, and how many there are of each
+/// number of binary digits. It takes no memory but its own.
 #[derive(Debug, Drop)]
 pub struct Summary {
     count: u64,
@@ -93,8 +93,8 @@ impl Summary {
         self.sum
     }
 
-    /// How many of them have 0, 1 and so on up to 64 binary digits: the number 0 has none, and those from 2^(n - 1) to
-    /// 2^n - 1 have n.
+    /// How many of them have 0, 1 and so on up to 64 binary digits: the number 0 has none, and those from 2^(n - 1)
+    /// to 2^n - 1 have n.
     pub fn by_digits(&self) -> &[u64; 65]
         ensures { result.now ≡ self.now.by_digits }
     {

@@ -1,5 +1,5 @@
 use Rattle.std.proofs.Common.{◌≡◌, ◌<◌, ◌≤◌, length, arith, rules}
-use Rattle.trace_stats.specs.Events.{IsFullAt}
+use Rattle.trace_stats.specs.parts.Events.{IsFullAt}
 use Rattle.trace_stats.proofs.SchemaLemmas.{none_below, one_below, all_added, fields_full}
 use Rattle.trace_stats.proofs.schema.add_values.Goals as goal
 
