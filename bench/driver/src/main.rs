@@ -1,4 +1,5 @@
 //! The original and the library side by side. See ../../README.md.
+mod extra;
 mod numbers;
 mod polls;
 mod reading;
@@ -90,6 +91,17 @@ fn main() {
             }
             println!("{}", black_box(t));
         }
+        // xdecode IMPL TRACE EVENTS FORM TURNS: `decode` over a further trace
+        "xdecode" => {
+            let trace = extra::TRACES.iter().position(|x| *x == a[2]).unwrap_or_else(|| panic!("no trace {}", a[2])) as u32;
+            let (n, form, turns): (u64, u32, u64) = (a[3].parse().unwrap(), a[4].parse().unwrap(), a[5].parse().unwrap());
+            let data = extra::written(trace, n);
+            let mut t = 0u64;
+            for _ in 0..turns {
+                t = t.wrapping_add(if a[1] == "orig" { reading::decoded(form, &data) } else { unsafe { port_decode(form, data.as_ptr(), data.len()) } });
+            }
+            println!("{}", black_box(t));
+        }
         "gen" => {
             use std::io::Write;
             std::io::stdout().write_all(&written(work_of(&a[1]), a[2].parse().unwrap())).unwrap();
@@ -102,6 +114,11 @@ fn main() {
                 // (the texts alone are no trace)
                 let sums = *name == "texts-made" || (0..FORMS.len() as u32).all(|f| reading::decoded(f, &o) == unsafe { port_decode(f, o.as_ptr(), o.len()) });
                 println!("{name:16} bytes {} {} sums {}", o.len(), if same { "same" } else { "DIFFER" }, if sums { "same" } else { "DIFFER" });
+            }
+            for (trace, name) in extra::TRACES.iter().enumerate() {
+                let o = extra::written(trace as u32, 50);
+                let sums = (0..FORMS.len() as u32).all(|f| reading::decoded(f, &o) == unsafe { port_decode(f, o.as_ptr(), o.len()) });
+                println!("{name:16} bytes {} sums {}", o.len(), if sums { "same" } else { "DIFFER" });
             }
         }
         // time K EVENTS

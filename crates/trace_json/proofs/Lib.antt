@@ -3,5 +3,4 @@ pub mod OneMore
 pub mod KindsPut
 pub mod Floats
 pub mod LineLemmas
-pub mod RawPairs
 pub mod Shallow

@@ -9,6 +9,7 @@ use Rattle.json.specs.Tree.{json_tokens}
 use Rattle.trace_values.specs.Values.{Value}
 use Rattle.trace_values.specs.Reading.{values_to_items, values_to_pairs}
 use Rattle.trace_wire.specs.Runs.{Pools}
+use Rattle.trace_values.proofs.CompareLoops.{ElementAt}
 use Rattle.trace_json.specs.EventJson.{IsValueJson, AreItemsJson, ArePairsJson, IsPairOf, AreFieldsJson}
 use Rattle.trace_json.specs.Put.{Stands}
 use Rattle.trace_json.specs.parts.Put.{StandAll, member_tokens}
@@ -69,12 +70,13 @@ seen_more {A} seen xs i x lt is =
 
 -- the items so far were put, and the next one
 pub item_stands :
-    {A : Type 0} (p : Pools) (seen : A → Value) (xs : List A) (i : ℕ) (x : A) (start old new : List Token) →
+    {A : Type 0} (p : Pools) (seen : A → Value) (xs : List A) (i : ℕ) {x : A} {start old : List Token}
+    (new : List Token) →
     i < length xs → x ≡ get_or xs i x →
     StandAll json_tokens (AreItemsJson p (values_to_items (list_map seen (take i xs)))) start old →
     Stands (IsValueJson p (seen x)) old new →
     StandAll json_tokens (AreItemsJson p (values_to_items (list_map seen (take (i + 1) xs)))) start new
-item_stands p seen xs i x start old new lt is s one =
+item_stands p seen xs i {x} {start} {old} new lt is s one =
     one_more json_tokens (AreItemsJson p (values_to_items (list_map seen (take i xs))))
     (AreItemsJson p (values_to_items (list_map seen (take (i + 1) xs)))) start old new one.json s one.tokens
     (λ js are. subst (λ (vs : List Value). AreItemsJson p (values_to_items vs) (js ++ one.json ∷ []))
@@ -82,38 +84,45 @@ item_stands p seen xs i x start old new lt is s one =
 
 -- the pairs so far were put, and the next one
 pub pair_stands_in :
-    {A : Type 0} (p : Pools) (seen : A → Value × Value) (xs : List A) (i : ℕ) (x : A) (start old new : List Token) →
+    {A : Type 0} (p : Pools) (seen : A → Value × Value) (xs : List A) (i : ℕ) {x : A} {start old : List Token}
+    (new : List Token) →
     i < length xs → x ≡ get_or xs i x →
     StandAll json_tokens (ArePairsJson p (values_to_pairs (list_map seen (take i xs)))) start old →
     Stands (IsPairJson p (seen x)) old new →
     StandAll json_tokens (ArePairsJson p (values_to_pairs (list_map seen (take (i + 1) xs)))) start new
-pair_stands_in p seen xs i x start old new lt is s one =
+pair_stands_in p seen xs i {x} {start} {old} new lt is s one =
     one_more json_tokens (ArePairsJson p (values_to_pairs (list_map seen (take i xs))))
     (ArePairsJson p (values_to_pairs (list_map seen (take (i + 1) xs)))) start old new one.json s one.tokens
     (λ js are. subst (λ (vs : List (Value × Value)). ArePairsJson p (values_to_pairs vs) (js ++ one.json ∷ []))
     (sym (seen_more seen xs i x lt is)) (pairs_more p (list_map seen (take i xs)) (seen x) js one.json are one.is_so))
 
+-- the first of the names that are left from an index on
+pub record NameAt (names left : List (List ℕ)) (i : ℕ) (name : List ℕ) : Type 0 where
+  pub rest : left ≡ drop i names
+  pub named : name ≡ get_or left 0 []
+
 -- a field after its name
 pub field_stands :
-    {A : Type 0} (p : Pools) (names left : List (List ℕ)) (seen : A → Value) (xs : List A) (i : ℕ) (x : A)
-    (name : List ℕ) (start old one new : List Token) →
-    i < length xs → x ≡ get_or xs i x → left ≡ drop i names → name ≡ get_or left 0 [] →
+    {A : Type 0} (p : Pools) (names : List (List ℕ)) {left : List (List ℕ)} (seen : A → Value) (xs : List A) (i : ℕ)
+    {x : A}
+    {name : List ℕ} {start old one : List Token} {new : List Token} →
+    ElementAt xs i x → NameAt names left i name →
     StandAll member_tokens (AreFieldsJson p names (list_map seen (take i xs))) start old →
     one ≡ old ++ key name ∷ [] → Stands (IsValueJson p (seen x)) one new →
     StandAll member_tokens (AreFieldsJson p names (list_map seen (take (i + 1) xs))) start new
-field_stands p names left seen xs i x name start old one new lt is rest named s keyed v =
+field_stands p names seen xs i {x} {name} {start} {old} {new} at called s keyed v =
     let vs = list_map seen (take i xs) in
     let j = v.json in
-    let count : length vs ≡ i = length-map (take i xs) seen ∙ length-take-le i xs (omega arith) in
+    let count : length vs ≡ i = length-map (take i xs) seen ∙ length-take-le i xs (omega (arith, at.inside)) in
     let here : name ≡ get_or (drop (length vs) names) 0 [] =
-    named ∙ ap (λ (l : List (List ℕ)). get_or l 0 []) (rest ∙ ap (λ (k : ℕ). drop k names) (sym count)) in
+    called.named ∙ ap (λ (l : List (List ℕ)). get_or l 0 []) (called.rest ∙ ap (λ (k : ℕ). drop k names) (sym count)) in
     let put : new ≡ old ++ member_tokens (name, j) =
     v.tokens ∙ ap (λ (t : List Token). t ++ json_tokens j) keyed
     ∙ append_assoc old (key name ∷ []) (json_tokens j) in
     one_more member_tokens (AreFieldsJson p names vs)
     (AreFieldsJson p names (list_map seen (take (i + 1) xs))) start old new (name, j) s put
     (λ ms are. subst (λ (us : List Value). AreFieldsJson p names us (ms ++ (name, j) ∷ []))
-    (sym (seen_more seen xs i x lt is)) (fields_more p names vs (seen x) ms name j here are v.is_so))
+    (sym (seen_more seen xs i x at.inside at.is)) (fields_more p names vs (seen x) ms name j here are v.is_so))
 
 -- what is left after one more
 pub drop_next : (i : ℕ) (xs : List (List ℕ)) → drop 1 (drop i xs) ≡ drop (i + 1) xs

@@ -1,6 +1,6 @@
 -- Tokens that are written one after another.
 use Rattle.std.proofs.Common.{◌≡◌, ℕ, ◌+◌, ◌<◌, ◌≤◌, length, take, get_or, List, [], ◌∷◌, ◌++◌, map as list_map}
-use Rattle.std.proofs.Common.{codes, Result, Ok, Err, OnOk, refl, sym, ap, ◌∙◌, append_assoc, append-nil}
+use Rattle.std.proofs.Common.{Result, Ok, Err, OnOk, refl, sym, ap, ◌∙◌, append_assoc, append-nil}
 use Rattle.std.specs.List.{flat_map}
 use Rattle.std.proofs.lemmas.List.{flat_map_more, take_more, take_all}
 use Rattle.std.proofs.lemmas.List.Folds.{flat_map-map}
@@ -32,13 +32,14 @@ in_three : (a b c d : List Token) → ((a ++ b) ++ c) ++ d ≡ a ++ (b ++ (c ++ 
 in_three a b c d = simp append_assoc
 
 enclosed :
-    {E : Type 0} (r : Result (Unit {0}) E) (old one two new opening inside closing : List Token) →
+    {E : Type 0} (r : Result (Unit {0}) E) (old : List Token) {one two : List Token}
+    (new opening inside closing : List Token) →
     one ≡ old ++ opening → two ≡ one ++ inside → OnOk r (new ≡ two ++ closing) →
     OnOk r (new ≡ old ++ (opening ++ (inside ++ closing)))
-enclosed (Ok u) old one two new opening inside closing a b e =
+enclosed (Ok u) old new opening inside closing a b e =
     e ∙ ap (λ (t : List Token). t ++ closing) (b ∙ ap (λ (t : List Token). t ++ inside) a)
     ∙ in_three old opening inside closing
-enclosed (Err x) old one two new opening inside closing a b e = tt
+enclosed (Err x) old new opening inside closing a b e = tt
 
 along : {E : Type 0} (r : Result (Unit {0}) E) (new old a b : List Token) → a ≡ b → OnOk r (new ≡ old ++ a) →
     OnOk r (new ≡ old ++ b)
@@ -51,7 +52,7 @@ list_put :
     OnOk r (new ≡ old ++ json_tokens (list_json js))
 list_put r js old one two new a b e =
     along r new old _ _ (ap (λ (t : List Token). begin_array ∷ t) (sym (items_tokens_of js)))
-    (enclosed r old one two new (begin_array ∷ []) (flat_map json_tokens js) (end_array ∷ []) a b e)
+    (enclosed r old new (begin_array ∷ []) (flat_map json_tokens js) (end_array ∷ []) a b e)
 
 -- the same of a list of what things are
 pub mapped_put :
@@ -65,13 +66,14 @@ mapped_put r f xs old one two new a b e =
 
 -- a key and a value were put as a list of two
 pub pair_put :
-    {E : Type 0} (r : Result (Unit {0}) E) (key value : Json) (old one two three new : List Token) →
+    {E : Type 0} (r : Result (Unit {0}) E) (key value : Json) (old : List Token) {one two three : List Token}
+    (new : List Token) →
     one ≡ old ++ begin_array ∷ [] → two ≡ one ++ json_tokens key → three ≡ two ++ json_tokens value →
     OnOk r (new ≡ three ++ end_array ∷ []) → OnOk r (new ≡ old ++ json_tokens (pair_json key value))
-pair_put r key value old one two three new a b c e =
+pair_put r key value old {one} {three} new a b c e =
     along r new old _ _
     (ap (λ (t : List Token). begin_array ∷ t) (append_assoc (json_tokens key) (json_tokens value) (end_array ∷ [])))
-    (enclosed r old one three new (begin_array ∷ []) (json_tokens key ++ json_tokens value) (end_array ∷ []) a
+    (enclosed r old new (begin_array ∷ []) (json_tokens key ++ json_tokens value) (end_array ∷ []) a
     (c ∙ ap (λ (t : List Token). t ++ json_tokens value) b
     ∙ append_assoc one (json_tokens key) (json_tokens value)) e)
 
@@ -102,62 +104,70 @@ object_stands r are old one two new a s e =
     one_stands r (λ j. (ms : List (List ℕ × Json)) × are ms × (j ≡ object_json ms)) (object_json s.all) old new
     (s.all, s.are_so, refl)
     (along r new old _ _ (ap (λ (t : List Token). begin_object ∷ t) (sym (members_tokens_of s.all)))
-    (enclosed r old one two new (begin_object ∷ []) (flat_map member_tokens s.all) (end_object ∷ []) a s.tokens e))
+    (enclosed r old new (begin_object ∷ []) (flat_map member_tokens s.all) (end_object ∷ []) a s.tokens e))
 
 pub pair_stands :
-    {E : Type 0} (r : Result (Unit {0}) E) (is_key is_value : Json → Type 0) (old one two three new : List Token) →
+    {E : Type 0} (r : Result (Unit {0}) E) (is_key is_value : Json → Type 0) (old : List Token)
+    {one two three : List Token} (new : List Token) →
     one ≡ old ++ begin_array ∷ [] → Stands is_key one two → Stands is_value two three →
     OnOk r (new ≡ three ++ end_array ∷ []) → OnOk r (Stands (IsPairOf is_key is_value) old new)
-pair_stands r is_key is_value old one two three new a key value e =
+pair_stands r is_key is_value old {one} new a key value e =
     one_stands r (IsPairOf is_key is_value) (pair_json key.json value.json) old new
     (key.json, value.json, key.is_so, value.is_so, refl)
-    (pair_put r key.json value.json old one two three new a key.tokens value.tokens e)
+    (pair_put r key.json value.json old new a key.tokens value.tokens e)
 
 -- the same inside a loop
 pub pair_closed :
-    (is_key is_value : Json → Type 0) (old one two three new : List Token) →
+    (is_key is_value : Json → Type 0) (old : List Token) {one two three new : List Token} →
     one ≡ old ++ begin_array ∷ [] → Stands is_key one two → Stands is_value two three →
     new ≡ three ++ end_array ∷ [] → Stands (IsPairOf is_key is_value) old new
-pair_closed is_key is_value old one two three new a key value e =
-    pair_stands {E = ℕ} (Ok tt) is_key is_value old one two three new a key value e
+pair_closed is_key is_value old {one} {new} a key value e =
+    pair_stands {E = ℕ} (Ok tt) is_key is_value old new a key value e
 
 -- an event was put from its name to its last brace
 pub event_stands :
     {E : Type 0} (r : Result (Unit {0}) E) (is : Json → Type 0) (name : List ℕ) (time : ℕ)
-    (old one two new : List Token) →
+    (old : List Token) {one : List Token} (two new : List Token) →
     one ≡ old ++ head_tokens name time → Stands is one two → OnOk r (new ≡ two ++ end_object ∷ []) →
     OnOk r (Stands (λ j. (fields : Json) × is fields × (j ≡ event_json name time fields)) old new)
-event_stands r is name time old one two new a s e =
+event_stands r is name time old {one} two new a s e =
     one_stands r (λ j. (fields : Json) × is fields × (j ≡ event_json name time fields))
     (event_json name time s.json) old new
     (s.json, s.is_so, refl)
-    (enclosed r old one two new (head_tokens name time) (json_tokens s.json) (end_object ∷ []) a s.tokens e)
+    (enclosed r old new (head_tokens name time) (json_tokens s.json) (end_object ∷ []) a s.tokens e)
 
 -- ---- tokens put one by one
 
-four_tokens :
-    (a b c d : Token) (old one two three new : List Token) →
-    one ≡ old ++ a ∷ [] → two ≡ one ++ b ∷ [] → three ≡ two ++ c ∷ [] → new ≡ three ++ d ∷ [] →
-    new ≡ old ++ a ∷ b ∷ c ∷ d ∷ []
-four_tokens a b c d old one two three new p q s e = rw (e, s, q, p) (simp append_assoc)
+-- three tokens, put one after another
+pub record ThreePut (a b c : Token) (old three : List Token) : Type 0 where
+  pub one : List Token
+  pub two : List Token
+  pub first : one ≡ old ++ a ∷ []
+  pub second : two ≡ one ++ b ∷ []
+  pub third : three ≡ two ++ c ∷ []
 
--- the third of them told otherwise
+-- four tokens were put, the third of them told otherwise
 pub put_four :
-    {E : Type 0} (r : Result (Unit {0}) E) (a b c d told : Token) (old one two three new : List Token) → c ≡ told →
-    one ≡ old ++ a ∷ [] → two ≡ one ++ b ∷ [] → three ≡ two ++ c ∷ [] → OnOk r (new ≡ three ++ d ∷ []) →
+    {E : Type 0} (r : Result (Unit {0}) E) {a b c : Token} (d : Token) {told : Token} {old three : List Token}
+    (new : List Token) → c ≡ told → ThreePut a b c old three → OnOk r (new ≡ three ++ d ∷ []) →
     OnOk r (new ≡ old ++ a ∷ b ∷ told ∷ d ∷ [])
-put_four (Ok u) a b c d told old one two three new same p q s e =
-    four_tokens a b c d old one two three new p q s e ∙ ap (λ (t : Token). old ++ a ∷ b ∷ t ∷ d ∷ []) same
-put_four (Err x) a b c d told old one two three new same p q s e = tt
+put_four (Ok u) {a} {b} d {old = old} new same p e =
+    rw (e, p.third, p.second, p.first, same) (simp append_assoc)
+put_four (Err x) d new same p e = tt
 
--- six tokens were put, one after another
+-- two tokens, put one after another
+pub record TwoPut (d x : Token) (three five : List Token) : Type 0 where
+  pub four : List Token
+  pub fourth : four ≡ three ++ d ∷ []
+  pub fifth : five ≡ four ++ x ∷ []
+
+-- six tokens were put
 pub put_six :
-    {E : Type 0} (r : Result (Unit {0}) E) (a b c d x y : Token) (old one two three four five new : List Token) →
-    one ≡ old ++ a ∷ [] → two ≡ one ++ b ∷ [] → three ≡ two ++ c ∷ [] → four ≡ three ++ d ∷ [] →
-    five ≡ four ++ x ∷ [] → OnOk r (new ≡ five ++ y ∷ []) →
+    {E : Type 0} (r : Result (Unit {0}) E) {a b c d x : Token} (y : Token) {old three five : List Token}
+    (new : List Token) → ThreePut a b c old three → TwoPut d x three five → OnOk r (new ≡ five ++ y ∷ []) →
     OnOk r (new ≡ old ++ a ∷ b ∷ c ∷ d ∷ x ∷ y ∷ [])
-put_six (Ok u) a b c d x y old one two three four five new p q s t v e = rw (e, v, t, s, q, p) (simp append_assoc)
-put_six (Err z) a b c d x y old one two three four five new p q s t v e = tt
+put_six (Ok u) y new p q e = rw (e, q.fifth, q.fourth, p.third, p.second, p.first) (simp append_assoc)
+put_six (Err z) y new p more e = tt
 
 -- ---- things written in a loop
 

@@ -48,7 +48,7 @@ dump_after {mid} {bytes = bytes} form g p here frames run d =
       rest = d.rest;
       end = d.end;
       last = d.last;
-      longest = continued (kind_of_form form) g here bytes frames d.frames mid d.rest d.end d.last run d.longest;
+      longest = continued g here frames run d.longest;
       last_line = d.last_line;
       ends = d.ends;
       text_is = ap (λ (t : List ℕ). first ++ t) d.text_is ∙ sym (append_assoc first others (line d.last_line))

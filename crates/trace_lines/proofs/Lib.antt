@@ -8,7 +8,6 @@ mod DumpsSentInParts
 mod DumpsAtPlaces
 mod HeldLines
 mod EventLines
-mod RawPairs
 mod DumpStatuses
 mod JoinedLists
 mod Depths

@@ -11,7 +11,9 @@ use Rattle.trace_wire.specs.Runs.{step, Begins, NoFrame, Ending, Whole, Stopped,
 use Rattle.trace_wire.specs.Runs.{no_pools, pools_after}
 use Rattle.trace_wire.proofs.LawLemmas.{Begins-unique, uncons, no_step_more, at_once, longest_exists}
 use Rattle.dial9_trace_format.specs.Decoding.{DecoderState, StartsWith, IsHeadless, rest_of, Goes, Conflicts}
+use Rattle.dial9_trace_format.specs.declared.decoder.error.DecodeError.{DecodeError}
 use Rattle.dial9_trace_format.specs.Feeding.{FeedState, new_feed}
+use Rattle.dial9_trace_format.specs.Sticking.{IsStuckAt}
 use Rattle.dial9_trace_format.specs.Pulling.{reader_of, standing_at}
 use Rattle.dial9_trace_format.proofs.DecoderRuns.{goes_position}
 use Rattle.dial9_trace_format.proofs.FeedingLemmas.{after_start, longer_start, headless_stays}
@@ -301,6 +303,18 @@ ends_stopped s v e some none =
     (subst (λ (x : List ℕ). x ≢ []) same some, subst (NoFrame owned_reader s.grammar) same none)
     (refl, ap stopped_line (omega arith)))
 
+-- the last line where no frame comes of what is kept
+pub stuck_ends : (s : FeedState) (e : DecodeError) → IsStuckAt s e → LinesEnd s [] 2 (line (stopped_line s.position))
+stuck_ends s e stuck more =
+    let bytes = s.kept ++ more in
+    left_by s (Some stuck.version) more 2 (line (stopped_line s.position)) stuck.known
+    (dump_ends (Frames Owned) s.grammar s.pools (s.position + length bytes) 2 bytes (stopped_line s.position) Stopped
+    (not_empty, stuck.never more) (refl, ap stopped_line (omega arith)))
+  where
+    not_empty : s.kept ++ more ≢ []
+    not_empty none = (let x : stuck.tag ∷ (stuck.after ++ more) ≡ [] =
+        sym (ap (λ (t : List ℕ). t ++ more) stuck.begins) ∙ none in cc)
+
 -- ---- each input has a dump
 
 pub record HasLeft (s : FeedState) (more : List ℕ) : Type 0 where
@@ -379,9 +393,9 @@ last_whole s v line_is text w known e is none =
 
 -- the last line where bytes are left
 pub last_stopped :
-    (s : FeedState) (v place : ℕ) (line_is text : List ℕ) → IsWaiting s → s.version ≡ Some v → place ≡ s.position →
+    {s : FeedState} {v place : ℕ} {line_is text : List ℕ} → IsWaiting s → s.version ≡ Some v → place ≡ s.position →
     s.position ≢ s.fed_len → line_is ≡ text ++ line (stopped_line place) → text ≡ [] → IsLeft s [] 2 line_is
-last_stopped s v place line_is text w known at e is none =
+last_stopped {s} {v} {place} {line_is} w known at e is none =
     let some : s.kept ≢ [] = λ bare. e (omega (arith, w.fed.counted, ap length bare)) in
     let line_here : line_is ≡ line (stopped_line s.position) =
     is ∙ ap (λ (x : List ℕ). x ++ line (stopped_line place)) none ∙ ap (λ (n : ℕ). line (stopped_line n)) at in

@@ -103,10 +103,11 @@ held_now {line = line} held text a b l = a ∙ ap (λ (x : List ℕ). x ++ line)
 
 -- one more line
 pub one_more :
-    (old now new : FeedState) (held line after : List ℕ) (next : Next) → next ≡ Line → Gathered old now held →
+    {old now : FeedState} (new : FeedState) {held : List ℕ} (line : List ℕ) {after : List ℕ} {next : Next}
+    → next ≡ Line → Gathered old now held →
     AreNextLines now new line next → after ≡ held ++ line → Gathered old new after
     × (length new.kept < length now.kept)
-one_more old now new held line after next is g n a =
+one_more {old} {now} new {held} line is g n a =
     let (come, fed, shorter) = subst (AreNextLines now new line) is n in (
       record {
         come = subst (LinesCome old [] new) (sym a) (come_further old now new [] [] held line g.come come);
@@ -117,18 +118,20 @@ one_more old now new held line after next is g n a =
 
 -- no more for now
 pub no_more :
-    (old now new : FeedState) (held line after : List ℕ) (next : Next) → next ≡ Wait → Gathered old now held →
+    {old now : FeedState} (new : FeedState) {held : List ℕ} (line : List ℕ) {after : List ℕ} {next : Next}
+    → next ≡ Wait → Gathered old now held →
     AreNextLines now new line next → after ≡ held ++ line → ArePieceLines old [] new after None
-no_more old now new held line after next is g n a =
+no_more {old} {now} new {held} line is g n a =
     let (come, waiting) = subst (AreNextLines now new line) is n in
     (subst (LinesCome old [] new) (sym a) (come_further old now new [] [] held line g.come come), waiting)
 
 -- the last
 pub last_one :
-    (old now new : FeedState) (held line after : List ℕ) (next : Next) (status : ℕ) → next ≡ End status →
+    {old now : FeedState} (new : FeedState) {held : List ℕ} (line : List ℕ) {after : List ℕ} {next : Next} (status : ℕ)
+    → next ≡ End status →
     Gathered old now held → AreNextLines now new line next → after ≡ held ++ line →
     ArePieceLines old [] new after (Some status)
-last_one old now new held line after next status is g n a =
+last_one {old} {now} new {held} line status is g n a =
     let ends : LinesEnd now [] status line = subst (AreNextLines now new line) is n in
     subst (LinesEnd old [] status) (sym a) (end_further old now [] [] held line status g.come ends)
 

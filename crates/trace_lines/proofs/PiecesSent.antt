@@ -168,10 +168,11 @@ front_further s read piece sent written bytes others come e (status, following, 
     )
 
 front_by :
-    (a b c : Account) (s : FeedState) (read piece sent bytes others : List ℕ) → LinesCome new_feed read s sent →
+    {a b : Account} (c : Account) (s : FeedState) (read piece : List ℕ) {sent bytes : List ℕ} (others : List ℕ)
+    → LinesCome new_feed read s sent →
     bytes ≡ read ++ (piece ++ others) → TookOnly a b sent [] →
     PrintsUpToFault (IsFrontOfDump (IsLeft s (piece ++ others))) b c → PrintsUpToFault (BeginsDump false bytes) a c
-front_by a b c s read piece sent bytes others come e took (written, front, faults, few, more) = (
+front_by {a} {b} c s read piece {sent} {bytes} others come e took (written, front, faults, few, more) = (
   sent ++ written,
   front_further s read piece sent written bytes others come e front,
   faults,
@@ -189,7 +190,7 @@ front_of_piece {a} {b} {c} {before} {after} {s} last piece h used (written, begi
     (consumed_more before after last h.read piece h.consumed used) in
     let parts : bytes ≡ h.read ++ (piece ++ p.0) = p.2 ∙ append_assoc h.read piece p.0 in
     let others : AreBytes p.0 = AreBytes-right (h.read ++ piece) p.0 (subst AreBytes p.2 fits) in
-    front_by a b c s h.read piece h.sent bytes p.0 h.come parts h.took (written, begins p.0 others, faults, few, took)
+    front_by c s h.read piece p.0 h.come parts h.took (written, begins p.0 others, faults, few, took)
 
 -- a front of the last line
 pub front_of_last :
@@ -201,7 +202,7 @@ front_of_last {a} {b} {c} {before} {after} {s} last h used end front bytes e fit
     (consumed_more before after last h.read [] h.consumed used) in
     let parts : bytes ≡ h.read ++ ([] ++ []) =
     p.2 ∙ append_assoc h.read [] p.0 ∙ ap (λ (x : List ℕ). h.read ++ x) (at_end last p.0 p.1 end) in
-    front_by a b c s h.read [] h.sent bytes [] h.come parts h.took front
+    front_by c s h.read [] [] h.come parts h.took front
 
 -- what was sent before a read failed, or when there were too many
 pub front_so_far :
@@ -211,7 +212,7 @@ front_so_far {a} {b} {before} {after} {s} h bytes e fits =
     let p = consumed_parts before after bytes h.read e h.consumed in
     let others : AreBytes p.0 = AreBytes-right h.read p.0 (subst AreBytes p.2 fits) in
     let left = left_exists s p.0 (both_fit s.kept p.0 h.waiting.fed.fits others) in
-    front_by a b b s h.read [] h.sent bytes p.0 h.come p.2 h.took
+    front_by b s h.read [] p.0 h.come p.2 h.took
     ([], (left.status, left.text, left.is), [], omega arith, TookOnly-none b)
 
 -- ---- by the answers of calls

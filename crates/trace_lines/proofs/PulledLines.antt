@@ -18,14 +18,14 @@ use Rattle.dial9_trace_format.specs.Pulling.{reader_of, standing_at, PullsFrame,
 use Rattle.dial9_trace_format.specs.Pulling.{Pulls}
 use Rattle.dial9_trace_format.proofs.DecoderRuns.{goes_position, next_goes, item_shorter}
 use Rattle.dial9_trace_format.proofs.PullingLemmas.{known_pulled, same_failure}
-use Rattle.trace_lines.specs.Lines.{line, item_line, first_line, no_header_line, conflict_line}
+use Rattle.trace_lines.specs.Lines.{line, item_line, first_line, no_header_line, stopped_line, conflict_line}
 use Rattle.trace_lines.specs.Dumps.{item_lines}
 use Rattle.trace_lines.specs.parts.PieceDumps.{LinesCome, LinesEnd, IsFed, IsWaiting, AppendsEnd, AppendsFirst}
-use Rattle.trace_lines.specs.parts.PieceDumps.{PulledLines, AreNextLines}
+use Rattle.trace_lines.specs.parts.PieceDumps.{PulledLines, AreNextLines, StuckLines}
 use Rattle.trace_lines.specs.declared.pieces.Next.{Next}
 use Rattle.trace_lines.specs.declared.pieces.Next.TheVariants.{Line, Wait, End}
 use Rattle.trace_lines.proofs.PieceLines.{come_further, end_further, known_come, known_skips, known_conflict}
-use Rattle.trace_lines.proofs.PieceLines.{first_comes, no_header_ends}
+use Rattle.trace_lines.proofs.PieceLines.{first_comes, no_header_ends, stuck_ends}
 
 -- ---- a decoder that knows the version
 
@@ -76,23 +76,24 @@ known_wait s new v f e (d, (steps, none), is) =
     )
 
 ends_by :
-    (s : FeedState) (v : ℕ) (m d : DecoderState) (frames : List Frame) (f : Failure) (e : DecodeError) (status : ℕ)
-    (text : List ℕ) → s.version ≡ Some v → Goes owned_reader (reader_of s) m frames → items frames ≡ [] →
+    (s : FeedState) {v : ℕ} {m : DecoderState} (d : DecoderState) {frames : List Frame} (f : Failure) {e : DecodeError}
+    (status : ℕ)
+    (text : List ℕ) → s.version ≡ Some v → Goes owned_reader (reader_of s) m frames × (items frames ≡ []) →
     FailsBy owned_reader m d f → e ≡ error_of (s.position + d.position) f → AppendsEnd e.pos e.kind status [] text →
     LinesEnd s [] status text
-ends_by s v m d frames (failures.Conflict id) e status text known g none c error a =
+ends_by s {v} {m} d {frames} (failures.Conflict id) status text known (g, none) c error a =
     let told : AppendsEnd (s.position + d.position) (error_kinds.Conflict id) status [] text =
     subst (λ (x : DecodeError). AppendsEnd x.pos x.kind status [] text) error a in
     subst (λ (n : ℕ). LinesEnd s [] n text) (sym told.0)
     (subst (LinesEnd s [] 3) (sym told.1) (known_conflict s v m d frames id known g none c))
-ends_by s v m d frames failures.OutOfMemory e status text known g none l error a =
+ends_by s d failures.OutOfMemory status text known steps l error a =
     absurd (subst (λ (x : DecodeError). AppendsEnd x.pos x.kind status [] text) error a)
 
 known_end :
     (s new : FeedState) (v : ℕ) (e : DecodeError) (status : ℕ) (text : List ℕ) → s.version ≡ Some v →
     PullsFrame s new (Err e) → AppendsEnd e.pos e.kind status [] text → LinesEnd s [] status text
 known_end s new v e status text known (d, f, (m, h, steps, fails, told), error, is) a =
-    ends_by s v m d steps.0 f e status text known steps.1 steps.2
+    ends_by s d f status text known (steps.1, steps.2)
     (subst (λ (x : Failure). FailsBy owned_reader m d x) (sym (same_failure d.position f h told)) fails) error a
 
 known_lines :
@@ -220,14 +221,14 @@ header_starts None bytes v e h = h
 header_starts (Some w) bytes v e h = absurd cc
 
 next_by :
-    (s new : FeedState) (o : Option ℕ) (frame : Result (Option Item) DecodeError) (before text : List ℕ)
+    {s new : FeedState} (o : Option ℕ) {frame : Result (Option Item) DecodeError} (before text : List ℕ)
     (next : Next) → s.version ≡ o → IsFed s → Pulls s new frame → FirstPart s.version new.version before →
     PulledLines frame before text next → AreNextLines s new text next
-next_by s new (Some v) frame before text next e f p first t =
+next_by {s} {new} (Some v) {frame} before text next e f p first t =
     let none = part_of_known s.version new.version before v e first in
     known_lines s new v frame text next f e (known_pulled s new frame v f.works e p)
     (subst (λ (b : List ℕ). PulledLines frame b text next) none t)
-next_by s new None frame before text next e f p first t = by_case (p.next f.works)
+next_by {s} {new} None {frame} before text next e f p first t = by_case (p.next f.works)
   where
     by_case : PullsFew s new frame ⊎ (PullsNoHeader s new frame ⊎ PullsNext s new frame)
         → AreNextLines s new text next
@@ -260,11 +261,12 @@ next_by s new None frame before text next e f p first t = by_case (p.next f.work
         (sym (text_is ∙ ap (λ (b : List ℕ). b ++ more) is))
         (begun_lines s new v more next (first_comes s v e (f.begins e) starts) lines)
 
+-- the lines of the next frame, after the first line where the header was read with it
 pub next_lines :
     (s new : FeedState) (frame : Result (Option Item) DecodeError) (before text : List ℕ) (next : Next) → IsFed s →
     Pulls s new frame → FirstPart s.version new.version before → PulledLines frame before text next →
     AreNextLines s new text next
-next_lines s new frame before text next f p first t = next_by s new s.version frame before text next refl f p first t
+next_lines s new frame before text next f p first t = next_by s.version before text next refl f p first t
 
 -- the same as it is appended
 pub first_as :
@@ -280,3 +282,26 @@ pub next_ok :
     IfOk r (PulledLines frame before text) → IfOk r (AreNextLines s new text)
 next_ok s new frame before text (Ok next) f p first t = next_lines s new frame before text next f p first t
 next_ok s new frame before text (Err e) f p first t = t
+
+-- what holds of what a call answered, where it answered this
+pub was_ok : {E : Type 0} (P : Next → Type 0) (r : Result Next E) (next : Next) → r ≡ Ok next → IfOk r P → P next
+was_ok P (Ok it) next e h = subst P (let same : it ≡ next = cc in same) h
+was_ok P (Err e) next x h = absurd cc
+
+-- the last line after the lines so far, where no frame comes of what is kept
+pub with_stuck :
+    (old new : FeedState) (lines text : List ℕ) (next : Next) → AreNextLines old new lines Wait
+    → StuckLines new lines text next → AreNextLines old new text next
+with_stuck old new lines text Line h stuck = absurd stuck
+with_stuck old new lines text Wait h stuck = subst (λ (x : List ℕ). AreNextLines old new x Wait) (sym stuck) h
+with_stuck old new lines text (End status) h (e, stuck, is, appended) =
+    subst (λ (n : ℕ). LinesEnd old [] n text) (sym is)
+    (subst (LinesEnd old [] 2) (sym appended)
+    (end_further old new [] [] lines (line (stopped_line new.position)) 2 h.0 (stuck_ends new e stuck)))
+
+-- the same, where no growth was refused
+pub stuck_ok :
+    {E : Type 0} (old new : FeedState) (lines text : List ℕ) (r : Result Next E) → AreNextLines old new lines Wait
+    → IfOk r (StuckLines new lines text) → IfOk r (AreNextLines old new text)
+stuck_ok old new lines text (Ok next) h stuck = with_stuck old new lines text next h stuck
+stuck_ok old new lines text (Err e) h stuck = tt

@@ -8,7 +8,7 @@ mod lines;
 pub mod pieces;
 mod plain;
 pub mod program;
-mod resolved;
+pub mod resolved;
 pub mod text;
 mod text_maps;
 pub mod value;

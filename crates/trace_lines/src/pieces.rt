@@ -6,6 +6,7 @@ ghost use Rattle.trace_lines.specs.Dumps.{failed_status};
 ghost use Rattle.trace_lines.specs.PieceDumps.{DumpsFrontOfBytes};
 ghost use Rattle.trace_lines.specs.parts.PieceDumps.{IsFed, IsWaiting, AreNextLines, GathersPiece, IsLeft};
 ghost use Rattle.trace_lines.specs.parts.PieceDumps.{AppendsEnd, AppendsFirst, PulledLines, SendsPiece, SendsRead};
+ghost use Rattle.trace_lines.specs.parts.PieceDumps.{StuckLines};
 ghost use Rattle.dial9_trace_format.specs.DecodedFrames.{item_of, next_as};
 ghost use Rattle.trace_lines.specs.parts.Sent.{Sends};
 ghost use Rattle.trace_lines.specs.Program.{DumpsAll};
@@ -39,9 +40,10 @@ enum Next {
 
 /// Writes the lines of all that a reader has left, as `dump` does those of the same bytes, and answers the status
 /// (docs/FORMAT.md, "Dumps"). It reads at most 4,096 bytes at once, and sends the lines of all frames that are whole
-/// then before it reads more. After a conflict, and where no header stands, it reads no more. `FAILED` comes only
-/// where a growth was refused, where the input could not be read to its end, and where the writer failed: then a
-/// front of the lines was written, with no fault or one, and nothing was handed on or tried again.
+/// then before it reads more. After a conflict, where no header stands, and where no frame comes of what was read,
+/// whatever is read after it, it reads no more. `FAILED` comes only where a growth was refused, where the input could
+/// not be read to its end, and where the writer failed: then a front of the lines was written, with no fault or one,
+/// and nothing was handed on or tried again.
 pub fn dump_pieces<R: Read, W: TraceWrite>(alloc: Global, input: &mut R, out: &mut W) -> u8
     ensures lines { result ≢ failed_status
         → DumpsAll false (R.remaining input.old) (W.told out.old) (W.told out.new) result }
@@ -188,7 +190,22 @@ fn push_next_lines(line: &mut String, decoder: &mut FeedDecoder) -> Result<Next,
     let before = decoder.version();
     let frame = decoder.next_frame();
     push_first_part(line, before, decoder.version())?;
-    push_pulled_line(line, frame)
+    match push_pulled_line(line, frame)? {
+        Next::Wait => push_stuck_line(line, decoder),
+        next => Ok(next),
+    }
+}
+
+// Appends the last line where no frame comes, whatever is read.
+fn push_stuck_line(line: &mut String, decoder: &FeedDecoder) -> Result<Next, AllocError>
+    ensures { IfOk result
+        (StuckLines decoder.now (string_bytes line.old) (string_bytes line.new)) }
+{
+    let Some(_) = decoder.stuck() else {
+        return Ok(Next::Wait);
+    };
+    push_stopped_line(line, decoder.position())?;
+    Ok(Next::End(STOPPED))
 }
 
 // Appends the first line where the version was unknown, and is known now.

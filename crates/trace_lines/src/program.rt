@@ -82,6 +82,7 @@ pub fn carry_out<R: Read, W: TraceWrite>(
     out: &mut W,
 ) -> u8
     ensures asked { task ≢ Task.Dump → task ≢ Task.Resolve → result ≡ failed_status }
+    ensures same_reader { task ≢ Task.Dump → task ≢ Task.Resolve → input.new ≡ input.old }
     ensures same_writer { task ≢ Task.Dump → task ≢ Task.Resolve → out.new ≡ out.old }
     ensures front { task ≢ Task.Dump → result ≡ failed_status
         → DumpsFront (resolves task) (R.remaining input.old) (W.told out.old) (W.told out.new) }

@@ -18,7 +18,8 @@ use Rattle.trace_writer.specs.declared.encoder.call.Reply.TheVariants.{Done, Wir
 use Rattle.trace_writer.specs.State.{EncoderView, WriterState}
 use Rattle.std.specs.declared.alloc.Global.{Global}
 use Rattle.trace_values.specs.Sending.{telling_list}
-use Rattle.trace_writer.specs.Calls.{Action, register, write_event, write_type, intern_string, write_string_pool}
+use Rattle.trace_writer.specs.Calls.{Action, register_existing, write_event, write_type, intern_string}
+use Rattle.trace_writer.specs.Calls.{write_string_pool}
 use Rattle.trace_writer.specs.Calls.{intern_stack, write_stack_pool, Answered, fresh_state, header}
 use Rattle.trace_writer.specs.parts.encoder.Calls.{Does}
 use Rattle.trace_writer.specs.CallLists.{Plays}
@@ -125,7 +126,7 @@ under defined handle = lookup (is_at (nat_cmp handle)) defined
 
 -- what a call asks of an encoder, after these definitions
 abbrev pub action_asked : Defined → ScriptCall → Option Action
-action_asked defined (Register handle) = option_map (λ e. register e) (under defined.schemas handle)
+action_asked defined (Register handle) = option_map (λ e. register_existing e) (under defined.schemas handle)
 action_asked defined (Event handle time values) =
     option_map (λ e. write_event e time (views values.items)) (under defined.schemas handle)
 action_asked defined (WriteTyped handle time values) =

@@ -61,22 +61,31 @@ by_digits_more xs n l k lt is =
 
 -- ---- all of it
 
+-- the least of the numbers, with one more of them
+pub record LeastWith (n : ℕ) (old new : Summary) : Type 0 where
+  pub below : new.least ≤ n
+  pub others : 0 < old.count → new.least ≤ old.least
+  pub which : (new.least ≡ n) ⊎ ((0 < old.count) × (new.least ≡ old.least))
+
+-- and the greatest
+pub record GreatestWith (n : ℕ) (old new : Summary) : Type 0 where
+  pub above : n ≤ new.greatest
+  pub others : 0 < old.count → old.greatest ≤ new.greatest
+  pub which : (new.greatest ≡ n) ⊎ ((0 < old.count) × (new.greatest ≡ old.greatest))
+
 -- a number was counted too
 pub one_number_more :
-    (xs : List ℕ) (n : ℕ) (old new : Summary) → IsSummaryOf xs old → new.count ≡ old.count + 1 →
-    new.least ≤ n → (0 < old.count → new.least ≤ old.least) →
-    (new.least ≡ n) ⊎ ((0 < old.count) × (new.least ≡ old.least)) →
-    n ≤ new.greatest → (0 < old.count → old.greatest ≤ new.greatest) →
-    (new.greatest ≡ n) ⊎ ((0 < old.count) × (new.greatest ≡ old.greatest)) → new.sum ≡ old.sum + n →
+    {xs : List ℕ} (n : ℕ) {old : Summary} (new : Summary) → IsSummaryOf xs old → new.count ≡ old.count + 1 →
+    LeastWith n old new → GreatestWith n old new → new.sum ≡ old.sum + n →
     binary_digits n < length old.by_digits →
     new.by_digits ≡ set old.by_digits (binary_digits n) (get_or old.by_digits (binary_digits n) 0 + 1) →
     IsSummaryOf (xs ++ n ∷ []) new
-one_number_more xs n old new s count below others least above over greatest total lt digits = record {
+one_number_more {xs} n {old} new s count l g total lt digits = record {
   count = count ∙ ap (λ (k : ℕ). k + 1) s.count ∙ sym (length-append xs (n ∷ []));
-  none_less = none_less_more xs n old.least new.least old.count s.count below others s.none_less;
-  least = λ some. one_of_them xs n old.least new.least old.count s.count least s.least;
-  none_greater = none_greater_more xs n old.greatest new.greatest old.count s.count above over s.none_greater;
-  greatest = λ some. one_of_them xs n old.greatest new.greatest old.count s.count greatest s.greatest;
+  none_less = none_less_more xs n old.least new.least old.count s.count l.below l.others s.none_less;
+  least = λ some. one_of_them xs n old.least new.least old.count s.count l.which s.least;
+  none_greater = none_greater_more xs n old.greatest new.greatest old.count s.count g.above g.others s.none_greater;
+  greatest = λ some. one_of_them xs n old.greatest new.greatest old.count s.count g.which s.greatest;
   sum = total ∙ ap (λ (k : ℕ). k + n) s.sum ∙ sym (sum_by_push (λ x. x) xs n);
   by_digits = λ k le. ap (λ (l : List ℕ). get_or l k 0) digits
       ∙ by_digits_more xs n old.by_digits k lt (s.by_digits k le);

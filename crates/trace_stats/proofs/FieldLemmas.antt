@@ -31,10 +31,11 @@ stays f vs v m s is none h =
 
 -- one to which a number was added
 grows :
-    (f : Measure → List ℕ) (vs : List Value) (v : Value) (m : Measure) (n : ℕ) (s t : Summary) → m ≡ measure_of v →
+    (f : Measure → List ℕ) (vs : List Value) (v : Value) {m : Measure} {n : ℕ} {s : Summary} (t : Summary)
+    → m ≡ measure_of v →
     f m ≡ n ∷ [] → ((xs : List ℕ) → IsSummaryOf xs s → IsSummaryOf (xs ++ n ∷ []) t) →
     IsSummaryOf (counted_of f vs) s → IsSummaryOf (counted_of f (vs ++ v ∷ [])) t
-grows f vs v m n s t is one add h =
+grows f vs v {m} {n} t is one add h =
     let same : counted_of f (vs ++ v ∷ []) ≡ counted_of f vs ++ n ∷ [] =
     counted_more f vs v m is ∙ ap (λ (l : List ℕ). counted_of f vs ++ l) one in
     subst (λ (l : List ℕ). IsSummaryOf l t) (sym same) (add (counted_of f vs) h)
@@ -53,7 +54,7 @@ pub natural_added :
     {E : Type 0} (r : Result (Unit {0}) E) (n : ℕ) (old : FieldStats) (t : Summary) → OnOk r (Adds n old.naturals t) →
     OnOk r (AddsValue (Natural n) old (record { naturals = t; negatives = old.negatives; lengths = old.lengths }))
 natural_added (Ok u) n old t add = λ vs v is h. record {
-  naturals = grows natural_in vs v (Natural n) n old.naturals t is refl add h.naturals;
+  naturals = grows natural_in vs v {n = n} t is refl add h.naturals;
   negatives = stays negative_in vs v (Natural n) old.negatives is refl h.negatives;
   lengths = stays length_in vs v (Natural n) old.lengths is refl h.lengths;
 }
@@ -66,7 +67,7 @@ pub negative_added :
     OnOk r (AddsValue (Negative n) old (record { naturals = old.naturals; negatives = t; lengths = old.lengths }))
 negative_added (Ok u) n old t add = λ vs v is h. record {
   naturals = stays natural_in vs v (Negative n) old.naturals is refl h.naturals;
-  negatives = grows negative_in vs v (Negative n) n old.negatives t is refl add h.negatives;
+  negatives = grows negative_in vs v {n = n} t is refl add h.negatives;
   lengths = stays length_in vs v (Negative n) old.lengths is refl h.lengths;
 }
 negative_added (Err e) n old t add = tt
@@ -78,7 +79,7 @@ pub length_added :
 length_added (Ok u) n old t add = λ vs v is h. record {
   naturals = stays natural_in vs v (Length n) old.naturals is refl h.naturals;
   negatives = stays negative_in vs v (Length n) old.negatives is refl h.negatives;
-  lengths = grows length_in vs v (Length n) n old.lengths t is refl add h.lengths;
+  lengths = grows length_in vs v {n = n} t is refl add h.lengths;
 }
 length_added (Err e) n old t add = tt
 

@@ -1,3 +1,4 @@
 pub mod Counting
 pub mod FieldLemmas
 pub mod SchemaLemmas
+pub mod TraceLemmas

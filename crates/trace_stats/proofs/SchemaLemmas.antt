@@ -10,11 +10,14 @@ use Rattle.std.proofs.Math.ListN.{get_or-map}
 use Rattle.std.proofs.lemmas.List.Elements.{All-push}
 use Rattle.std.specs.List.{All}
 use Rattle.trace_values.specs.Refs.{ref_view, ref_views}
+use Rattle.trace_values.specs.ValueViews.{view, views}
 use Rattle.trace_values.specs.Values.{Value}
+use Rattle.trace_values.specs.declared.types.field_value.FieldValue.{FieldValue}
 use Rattle.trace_values.specs.declared.types.borrowed.FieldValueRef.{FieldValueRef}
 use Rattle.trace_wire.specs.Schemas.{Entry}
 use Rattle.dial9_trace_format.specs.Resolving.{in_full}
 use Rattle.dial9_trace_format.specs.ShownEvents.{ShownEvent}
+use Rattle.trace_values.proofs.CompareLoops.{ElementAt}
 use Rattle.trace_stats.specs.Summaries.{IsSummaryOf, most_counted}
 use Rattle.trace_stats.specs.Events.{Counted, value_at, column, AreFieldsOf, IsSchemaOf}
 use Rattle.trace_stats.specs.parts.Events.{AddsAt, AddsValues, IsFullAt}
@@ -41,15 +44,15 @@ none_below e fs = record {
 }
 
 below_next :
-    (i : ℕ) (e : ShownEvent) (old mid new : List FieldStats) → AddedBelow i e old mid → AddsAt i e mid new →
-    (k : ℕ) (d : FieldStats) (vs : List Value) → k < i + 1 → IsFieldOf vs (get_or old k d) →
+    {i : ℕ} {e : ShownEvent} {old mid new : List FieldStats} → AddedBelow i e old mid → AddsAt i e mid new →
+    (k : ℕ) (d : FieldStats) {vs : List Value} → k < i + 1 → IsFieldOf vs (get_or old k d) →
     (k ≡ i) ⊎ (k ≡ i → ⊥) → IsFieldOf (vs ++ value_at k e) (get_or new k d)
-below_next i e old mid new s one k d vs lt h (inl is) =
+below_next {i} {e} {old} {mid} {new} s one k d {vs} lt h (inl is) =
     let at_i : IsFieldOf vs (get_or old i d) = subst (λ (j : ℕ). IsFieldOf vs (get_or old j d)) is h in
     let before : IsFieldOf vs (get_or mid i d) =
     subst (λ (f : FieldStats). IsFieldOf vs f) (sym (s.rest i d (omega arith))) at_i in
     subst (λ (j : ℕ). IsFieldOf (vs ++ value_at j e) (get_or new j d)) (sym is) (one.here d vs before)
-below_next i e old mid new s one k d vs lt h (inr other) =
+below_next {i} {e} s one k d {vs} lt h (inr other) =
     let less : k < i = omega arith in
     subst (λ (f : FieldStats). IsFieldOf (vs ++ value_at k e) f) (sym (one.others k d other)) (s.below k d vs less h)
 
@@ -59,7 +62,7 @@ pub one_below :
     AddsAt i e mid new → AddedBelow (i + 1) e old new
 one_below i e old mid new s count one = record {
   count = count ∙ s.count;
-  below = λ k d vs lt h. below_next i e old mid new s one k d vs lt h (cases_eq k i);
+  below = λ k d vs lt h. below_next s one k d lt h (cases_eq k i);
   rest = λ k d le. one.others k d (λ is. absurd (omega (arith, is, le))) ∙ s.rest k d (omega arith);
 }
 
@@ -112,10 +115,11 @@ nothing_at i e fs none = record {
 }
 
 pub one_at :
-    (i : ℕ) (e : ShownEvent) (v : Value) (old new : List FieldStats) (f g : FieldStats) → i < length old →
+    (i : ℕ) (e : ShownEvent) {v : Value} (old : List FieldStats) {new : List FieldStats} {f : FieldStats}
+    (g : FieldStats) → i < length old →
     value_at i e ≡ v ∷ [] → f ≡ get_or old i f → new ≡ set old i g →
     ((vs : List Value) → IsFieldOf vs f → IsFieldOf (vs ++ v ∷ []) g) → AddsAt i e old new
-one_at i e v old new f g lt one at put add = record {
+one_at i e {v} old {new} {f} g lt one at put add = record {
   here = λ d vs h.
       let f_is : get_or old i d ≡ f = get_or_default old i d f lt ∙ sym at in
       let g_is : get_or new i d ≡ g =
@@ -188,16 +192,27 @@ value_in e fs i x is lt at =
     ∙ ap (λ (l : List Value). get_or l i (ref_view x)) (sym is) in
     value_here e i (ref_view x) (omega (arith, many, lt)) here
 
+-- the same of values that own their memory
+pub owned_value_in :
+    (e : ShownEvent) (vs : List FieldValue) (i : ℕ) (x : FieldValue) → e.values ≡ views vs → i < length vs →
+    x ≡ get_or vs i x → value_at i e ≡ in_full e.pools (view x) ∷ []
+owned_value_in e vs i x is lt at =
+    let many : length e.values ≡ length vs = ap length is ∙ length-map vs view in
+    let here : view x ≡ get_or e.values i (view x) =
+    ap view at ∙ sym (get_or-map view vs i x) ∙ ap (λ (l : List Value). get_or l i (view x)) (sym is) in
+    value_here e i (view x) (omega (arith, many, lt)) here
+
 -- where a field took the value of its index, that was added
 pub one_added :
-    {E : Type 0} (r : Result (Unit {0}) E) (i : ℕ) (e : ShownEvent) (v : Value) (old new : List FieldStats)
-    (f g : FieldStats) (m : Measure) → i < length old →
-    value_at i e ≡ v ∷ [] → f ≡ get_or old i f → new ≡ set old i g → m ≡ measure_of v →
+    {E : Type 0} (r : Result (Unit {0}) E) (i : ℕ) (e : ShownEvent) {v : Value} (old : List FieldStats)
+    {new : List FieldStats}
+    {f : FieldStats} (g : FieldStats) {m : Measure} → ElementAt old i f →
+    value_at i e ≡ v ∷ [] → new ≡ set old i g → m ≡ measure_of v →
     OnOk r ((vs : List Value) (w : Value) → m ≡ measure_of w → IsFieldOf vs f → IsFieldOf (vs ++ w ∷ []) g) →
     OnOk r (AddsAt i e old new)
-one_added (Ok u) i e v old new f g m lt one at put is add =
-    one_at i e v old new f g lt one at put (λ vs h. add vs v is h)
-one_added (Err x) i e v old new f g m lt one at put is add = tt
+one_added (Ok u) i e {v} old {new} {f} g at one put is add =
+    one_at i e old g at.inside one at.is put (λ vs h. add vs v is h)
+one_added (Err x) i e old g at one put is add = tt
 
 -- ---- where no more can be counted
 

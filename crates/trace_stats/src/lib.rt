@@ -1,6 +1,7 @@
 //! What the events of a trace add up to (docs/MODEL.md, "Statistics").
 #![tactic(auto)]
 
+pub mod event;
 pub mod field;
 pub mod full;
 mod measure;
@@ -8,3 +9,4 @@ pub mod schema;
 pub mod summary;
 #[cfg(test)]
 mod tests;
+pub mod trace;

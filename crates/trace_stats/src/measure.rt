@@ -6,8 +6,11 @@ ghost use Rattle.dial9_trace_format.specs.parts.Resolving.{as_pools};
 ghost use Rattle.dial9_trace_format.specs.Resolving.{in_full};
 ghost use Rattle.trace_stats.specs.Fields.{measure_of, measure_of_integer};
 
+pub(crate) use owned::measure_of_owned;
 use trace_values::types::FieldValueRef;
 use trace_wire::pools::{StackPool, StringPool};
+
+mod owned;
 
 /// What is counted of a value.
 #[derive(Clone, Copy, Debug)]

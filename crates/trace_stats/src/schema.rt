@@ -4,6 +4,7 @@ ghost use Rattle.std.specs.Prelude.{◌≡◌, ◌<◌, ◌≤◌, ◌++◌, ◌
 ghost use Rattle.dial9_trace_format.specs.ShownEvents.{shown_event};
 ghost use Rattle.trace_stats.specs.Summaries.{most_counted};
 ghost use Rattle.trace_stats.specs.Events.{Counted, counted, bare, AreFieldsOf, IsSchemaOf};
+ghost use Rattle.trace_stats.specs.Traces.{is_same_schema};
 ghost use Rattle.trace_stats.specs.parts.Events.{AddsAt, AddsValues, IsFullAt, AreFull};
 
 use crate::field::FieldStats;
@@ -14,6 +15,8 @@ use dial9_trace_format::decoder::RawEvent;
 use std::alloc::{AllocError, Global};
 use trace_values::tri;
 use trace_wire::schema::SchemaEntry;
+
+mod owned;
 
 /// What the events of a schema add up to: their times, the bytes that they take, and the values of each field.
 #[derive(Debug, Drop)]
@@ -53,6 +56,14 @@ impl SchemaStats {
         tri!(self.times.add(event.timestamp_ns));
         tri!(self.bytes.add(bytes));
         add_values(&mut self.fields, event)
+    }
+
+    /// Whether a schema has the same name and the same fields as this one.
+    #[inline]
+    pub(crate) fn is_of(&self, schema: &SchemaEntry) -> bool
+        ensures { result ≡ is_same_schema self.now.schema schema.now }
+    {
+        self.schema.name() == schema.name() && self.schema.fields() == schema.fields()
     }
 
     /// The schema, without its annotations.

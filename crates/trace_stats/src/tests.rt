@@ -1,7 +1,9 @@
 //! Traces written by hand after docs/FORMAT.md, and what their events add up to, worked out by hand.
 
+use crate::event::OwnedEvent;
 use crate::schema::SchemaStats;
 use crate::summary::Summary;
+use crate::trace::TraceStats;
 use dial9_trace_format::decoder::{Decoder, EventSink, RawEvent};
 use std::alloc::{AllocError, Global};
 use std::test::Fail;
@@ -40,6 +42,19 @@ const TWO_EVENTS: [u8; 56] = [
     0x02, 0x00, 0x01, 0xE8, 0x03, 0x00, 0xAC, 0x02, 0x02, 0x00, 0x00, 0x00, 0x68, 0x69, // the first
     0x02, 0x00, 0x01, 0xD0, 0x07, 0x00, // the second
     0xFF, 0xFF, 0xFF, 0xFF, 0xFF, 0xFF, 0xFF, 0xFF, 0xFF, 0x01, 0x00, 0x00, 0x00, 0x00,
+];
+
+/// An event of a schema `E` under the id 256; and after a second header one of that schema under the id 300, and one
+/// of the schema `F`, which has the same field, under the id 256.
+const TWO_HEADERS: [u8; 70] = [
+    0x54, 0x52, 0x43, 0x00, 0x01, // header
+    0x01, 0x00, 0x01, 0x01, 0x00, 0x45, 0x01, 0x01, 0x00, 0x01, 0x00, 0x76, 0x09, // `E` under 256
+    0x02, 0x00, 0x01, 0xE8, 0x03, 0x00, 0x2A, // 42 at 1,000
+    0x54, 0x52, 0x43, 0x00, 0x01, // header
+    0x01, 0x2C, 0x01, 0x01, 0x00, 0x45, 0x01, 0x01, 0x00, 0x01, 0x00, 0x76, 0x09, // `E` under 300
+    0x01, 0x00, 0x01, 0x01, 0x00, 0x46, 0x01, 0x01, 0x00, 0x01, 0x00, 0x76, 0x09, // `F` under 256
+    0x02, 0x2C, 0x01, 0xD0, 0x07, 0x00, 0x07, // 7 at 2,000
+    0x02, 0x00, 0x01, 0x00, 0x00, 0x00, 0x05, // 5 at 2,000
 ];
 
 /// How many bytes each event is said to take.
@@ -237,4 +252,89 @@ fn wide_schemas(rt: HostRuntime) -> Result<(), Fail> {
         assert!(rt; stats.fields().len() == count && is_row(stats.times(), &NONE));
     }
     Ok(())
+}
+
+/// What the events of a trace add up to, by the frames that a decoder gives.
+fn trace_stats_of(alloc: Global, trace: &[u8]) -> Option<TraceStats> {
+    let mut stats = TraceStats::new(alloc);
+    let mut decoder = Decoder::new(alloc, trace)?;
+    for _ in 0..trace.len() {
+        let frame = decoder.next_frame().ok()??;
+        let (registry, texts) = (decoder.registry(), decoder.string_pool());
+        if let Some(event) = OwnedEvent::of_frame(&frame, registry, texts, decoder.stack_pool()) {
+            stats.add_owned(&event, BYTES).ok()?;
+        }
+        if decoder.position() == trace.len() {
+            return Some(stats);
+        }
+    }
+    None
+}
+
+/// The same, by a sink.
+#[derive(Drop)]
+struct CountingAll {
+    stats: TraceStats,
+}
+
+impl<'a> EventSink<'a, ()> for CountingAll {
+    ghost step = { λ _ _ _ _. Unit {0} };
+
+    fn event(&mut self, event: &RawEvent<'a, '_>) -> Result<(), ()> {
+        match self.stats.add(event, BYTES) {
+            Ok(()) => Ok(()),
+            Err(_) => Err(()),
+        }
+    }
+}
+
+/// Whether there are two schemas of one field: `E` with 42 and 7, and `F` with 5.
+fn are_two_schemas(stats: &TraceStats) -> bool {
+    let times = Row {
+        count: 2,
+        least: Some(1_000),
+        greatest: Some(2_000),
+        sum: 3_000,
+        by_digits: &[(10, 1), (11, 1)],
+    };
+    let numbers = Row {
+        count: 2,
+        least: Some(7),
+        greatest: Some(42),
+        sum: 49,
+        by_digits: &[(3, 1), (6, 1)],
+    };
+    let five = Row {
+        count: 1,
+        least: Some(5),
+        greatest: Some(5),
+        sum: 5,
+        by_digits: &[(3, 1)],
+    };
+    match stats.schemas() {
+        [first, second] => {
+            first.schema().name() == "E"
+                && second.schema().name() == "F"
+                && is_row(first.times(), &times)
+                && is_field(first, 0, &numbers, &NONE, &NONE)
+                && is_field(second, 0, &five, &NONE, &NONE)
+        }
+        _ => false,
+    }
+}
+
+#[test]
+fn schemas_across_headers(rt: HostRuntime) {
+    let Some(stats) = trace_stats_of(rt.alloc(), &TWO_HEADERS) else {
+        panic!(rt; "not counted");
+    };
+    assert!(rt; are_two_schemas(&stats));
+    let Some(mut decoder) = Decoder::new(rt.alloc(), &TWO_HEADERS) else {
+        panic!(rt; "no header");
+    };
+    let mut counting = CountingAll {
+        stats: TraceStats::new(rt.alloc()),
+    };
+    assert!(rt; decoder.try_for_each_event(&mut counting).is_ok());
+    assert!(rt; are_two_schemas(&counting.stats));
 }

@@ -20,6 +20,7 @@ mod resolved;
 mod resuming;
 mod sending;
 mod sinks;
+mod sticking;
 mod texts;
 mod told;
 mod traces;

@@ -5,7 +5,7 @@ use Rattle.dial9_trace_format.specs.Words.{Frame, Header, FrontOf, Action, Done,
 use Rattle.dial9_trace_format.specs.Words.{EncodeError, frames_of, fresh_state, frames_played, Plays, IsResumed}
 use Rattle.dial9_trace_format.specs.Words.{IsTraceOf, TracesJoin, FaultsAreFronts, frames_begun, TraceIsDecoded}
 use Rattle.dial9_trace_format.specs.Words.{DecoderState, bytes_before, OpenedHasTaken, TakesMore, FrontGoesOn}
-use Rattle.dial9_trace_format.specs.Words.{WholeStory}
+use Rattle.dial9_trace_format.specs.Words.{WholeStory, all_of_kind}
 use Rattle.user_words.specs.Torn.{JoinsAfter, RefusesToJoin, PlainStory, told}
 
 -- what the proof takes of the library
@@ -20,13 +20,14 @@ pub one_file :
     (old new : EncoderView (Vec ℕ Global)) → IsResumed old.state d.grammar d.pools →
     old.writer.items ≡ bytes_before d → Outcome told old a replied_done (Ok tt) new →
     bytes ≡ new.writer.items ++ next → JoinsAfter d a next bytes
-one_file {bytes} laws next a d old new resumed kept call whole torn frames taken later y front h t =
+one_file {bytes} laws next a d old new resumed kept call whole torn kinds frames taken later y front h t =
     let x = old.state in
     let plays : Plays x (a ∷ []) (Done ∷ []) call.sent new.state =
     (new.state, call.sent, [], sym (append-nil call.sent), call.answer, (refl, refl)) in
     let g = laws.goes_on torn frames (record {
       decoder = d;
       frames = taken;
+      kinds = kinds;
       took = h;
       start = x;
       resumed = resumed;
@@ -70,7 +71,8 @@ plain_story opened more fronts story calls later replies answers sent next c d y
     (record {
       decoder = last;
       frames = taken;
-      took = more c k first last [] taken (opened c first o) g;
+      kinds = all_of_kind k taken;
+      took = more c k first last [] [] taken (opened c first o) g;
       start = x;
       resumed = is;
       calls = later;

@@ -9,9 +9,10 @@ use Rattle.dial9_trace_format.specs.Feeding.{FeedState}
 use Rattle.dial9_trace_format.specs.declared.decoder.error.DecodeError.{DecodeError}
 use Rattle.dial9_trace_format.specs.declared.decoder.error.DecodeErrorKind.{DecodeErrorKind}
 use Rattle.dial9_trace_format.specs.declared.decoder.error.DecodeErrorKind.TheVariants as error_kinds
-use Rattle.trace_lines.specs.Lines.{line, item_line, first_line, no_header_line, conflict_line}
-use Rattle.trace_lines.specs.Dumps.{no_header_status, conflict_status, IsDumpFrom, IsDumpAs, IsDump, IsFrontOfDump}
-use Rattle.trace_lines.specs.Dumps.{PrintsUpToFault}
+use Rattle.dial9_trace_format.specs.Sticking.{IsStuckAt}
+use Rattle.trace_lines.specs.Lines.{line, item_line, first_line, no_header_line, stopped_line, conflict_line}
+use Rattle.trace_lines.specs.Dumps.{no_header_status, stopped_status, conflict_status, IsDumpFrom, IsDumpAs, IsDump}
+use Rattle.trace_lines.specs.Dumps.{IsFrontOfDump, PrintsUpToFault}
 use Rattle.trace_lines.specs.declared.dump.DumpForm.TheVariants.{Frames}
 use Rattle.trace_lines.specs.declared.dump.Reader.TheVariants.{Owned}
 use Rattle.trace_lines.specs.declared.pieces.Next.{Next}
@@ -86,6 +87,13 @@ PulledLines (Ok (Some shown)) old new Line = new ≡ old ++ line (item_line show
 PulledLines (Ok None) old new Wait = new ≡ old
 PulledLines (Err e) old new (End status) = AppendsEnd e.pos e.kind status old new
 PulledLines frame old new next = ⊥
+
+-- nothing is appended; or the last line, where the decoder tells that no frame comes of what it keeps
+abbrev pub StuckLines : FeedState → List ℕ → List ℕ → Next → Type 0
+StuckLines s old new Line = ⊥
+StuckLines s old new Wait = new ≡ old
+StuckLines s old new (End status) =
+    (e : DecodeError) × IsStuckAt s e × (status ≡ stopped_status) × (new ≡ old ++ line (stopped_line s.position))
 
 -- the lines of the next frame; or of none, where none is whole; or all that are left
 abbrev pub AreNextLines : FeedState → FeedState → List ℕ → Next → Type 0

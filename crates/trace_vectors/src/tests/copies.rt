@@ -1,7 +1,7 @@
-//! Copies of schemas.
+//! Copies of schemas, and of maps.
 
 use dial9_trace_format::schema::{FieldAnnotation, FieldDef, SchemaEntry};
-use dial9_trace_format::types::FieldType;
+use dial9_trace_format::types::{FieldType, FieldValue};
 use std::alloc::{AllocError, Global};
 use std::test::Fail;
 
@@ -57,5 +57,33 @@ fn copied_entry(rt: HostRuntime) -> Result<(), Fail> {
     let field = FieldDef::new(rt.alloc(), "v", FieldType::Varint)?;
     let unit = FieldAnnotation::new(rt.alloc(), 7, "unit", "ns")?;
     assert!(rt; are_copied(rt.alloc(), field, unit)?);
+    Ok(())
+}
+
+/// A map of two pairs of numbers, or a map of two texts under two.
+fn map_of_two(alloc: Global, of_texts: bool) -> Result<FieldValue, AllocError> {
+    if of_texts {
+        let mut texts = Vec::new(alloc);
+        texts.push((Vec::from_slice(alloc, b"a")?, Vec::from_slice(alloc, b"b")?))?;
+        texts.push((Vec::from_slice(alloc, b"")?, Vec::from_slice(alloc, b"c")?))?;
+        return Ok(FieldValue::StringMap(texts));
+    }
+    let mut pairs = Vec::new(alloc);
+    pairs.push((FieldValue::Varint(1), FieldValue::Varint(2)))?;
+    pairs.push((FieldValue::Varint(3), FieldValue::None))?;
+    Ok(FieldValue::Map(pairs))
+}
+
+/// The copy of a map of two pairs has both.
+fn is_map_copied(alloc: Global, of_texts: bool) -> Result<bool, AllocError> {
+    let map = map_of_two(alloc, of_texts)?;
+    let copy = map.clone(alloc)?;
+    Ok(copy == map && copy == map_of_two(alloc, of_texts)?)
+}
+
+#[test]
+fn copied_maps(rt: HostRuntime) -> Result<(), Fail> {
+    assert!(rt; is_map_copied(rt.alloc(), false)?);
+    assert!(rt; is_map_copied(rt.alloc(), true)?);
     Ok(())
 }

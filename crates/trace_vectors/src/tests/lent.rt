@@ -2,12 +2,14 @@
 
 ghost use Rattle.trace_samples.specs.Telling.{all_told};
 
-use crate::tests::told::{KINDS, breaking, kind_of, once, tells};
+use crate::tests::calls::decoder_of;
+use crate::tests::told::{KINDS, breaking, kind_of, once, stepping, tells};
 use dial9_trace_format::encoder::Encoder;
 use dial9_trace_format::leb128::{EncodeError, TraceWrite};
 use std::alloc::Global;
 use std::io;
 use std::io::ErrorKind;
+use std::test::Fail;
 use trace_samples::{Manner, Told};
 use trace_values::leb128::Faults;
 
@@ -55,4 +57,60 @@ fn a_refused_encoder_tried_its_writer_once(rt: HostRuntime) {
             assert!(rt; is_dropped(rt.alloc(), once(breaking(4, place, refusal))));
         }
     }
+}
+
+/// An encoder over the first writer begins no new trace over the second, by the fault of that one.
+fn is_not_reset<'a>(alloc: Global, before: Lent<'a>, next: Lent<'a>, kind: ErrorKind) -> bool {
+    let Ok(mut encoder) = Encoder::new_to(alloc, before) else {
+        return false;
+    };
+    match encoder.reset_to(next) {
+        Ok(_) => false,
+        Err(fault) => fault == EncodeError::Writer(kind),
+    }
+}
+
+/// The header of a new trace went out to where its writer failed, and was not tried again; the writer before has its
+/// own header, once.
+fn is_dropped_by_reset(alloc: Global, manner: Manner) -> bool {
+    let mut before = Told::new(stepping(1));
+    let mut told = Told::new(manner);
+    let kind = kind_of(manner);
+    let is_refused = is_not_reset(alloc, Lent(&mut before), Lent(&mut told), kind);
+    let sent = HEADER.get(..manner.place).unwrap_or(&[]);
+    is_refused
+        && (tells(&told, sent, Faults::OneFault(kind), sent.is_empty())
+            && tells(&before, &HEADER, Faults::NoFault, false))
+}
+
+#[test]
+fn a_refused_reset_tried_its_writer_once(rt: HostRuntime) {
+    for place in 0..5usize {
+        for refusal in KINDS {
+            assert!(rt; is_dropped_by_reset(rt.alloc(), breaking(1, place, refusal)));
+            assert!(rt; is_dropped_by_reset(rt.alloc(), once(breaking(4, place, refusal))));
+        }
+    }
+}
+
+/// A schema under wire id 1, and then another.
+const CONFLICT: [u8; 23] = [
+    0x54, 0x52, 0x43, 0x00, 0x01, 0x01, 0x01, 0x00, 0x01, 0x00, 0x41, 0x01, 0x00, 0x00, 0x01, 0x01,
+    0x00, 0x01, 0x00, 0x42, 0x01, 0x00, 0x00,
+];
+
+/// A decoder that failed by a conflict gives no encoder.
+fn is_not_resumed(alloc: Global, told: &mut Told) -> Result<bool, Fail> {
+    let mut decoder = decoder_of(alloc, &CONFLICT)?;
+    let count = decoder.decode_all()?.len();
+    let refused = decoder.into_encoder(Lent(told)).err();
+    Ok(count == 1 && refused == Some(EncodeError::Failed))
+}
+
+#[test]
+fn a_refused_resumption_leaves_its_writer(rt: HostRuntime) -> Result<(), Fail> {
+    let mut told = Told::new(stepping(1));
+    assert!(rt; is_not_resumed(rt.alloc(), &mut told)?);
+    assert!(rt; tells(&told, &[], Faults::NoFault, true));
+    Ok(())
 }

@@ -1,7 +1,9 @@
 //! The registry of schemas.
 
-use dial9_trace_format::codec::WireTypeId;
-use dial9_trace_format::schema::{FieldDef, RegisterError, SchemaEntry, SchemaRegistry};
+use crate::tests::calls::{all, decoder_of};
+use dial9_trace_format::schema::{
+    FieldDef, RegisterError, SchemaEntry, SchemaRegistry, WireTypeId,
+};
 use dial9_trace_format::types::FieldType;
 use std::alloc::{AllocError, Global};
 use std::test::Fail;
@@ -87,5 +89,40 @@ fn no_id_above_the_greatest(rt: HostRuntime) -> Result<(), Fail> {
     assert!(rt; next_id(&mut again) == None);
     assert!(rt; again.get(WireTypeId(256)).is_none());
     assert!(rt; has_entries(&again, &[(65_535, "A")]));
+    Ok(())
+}
+
+/// Two schemas without fields, of events without a time: `A` under wire id 9, and `B` under 300.
+const UNTIMED: [u8; 23] = [
+    0x54, 0x52, 0x43, 0x00, 0x01, 0x01, 0x09, 0x00, 0x01, 0x00, 0x41, 0x00, 0x00, 0x00, 0x01, 0x2C,
+    0x01, 0x01, 0x00, 0x42, 0x00, 0x00, 0x00,
+];
+
+#[test]
+fn schemas_without_a_time_are_copied(rt: HostRuntime) -> Result<(), Fail> {
+    let mut decoder = decoder_of(rt.alloc(), &UNTIMED)?;
+    assert!(rt; all(&mut decoder)?.len() == 2);
+    let copy = decoder.registry().clone()?;
+    assert!(rt; has_entries(&copy, &[(9, "A"), (300, "B")]));
+    Ok(())
+}
+
+/// A registry with 65,535 schemas, emptied.
+fn emptied(alloc: Global) -> Result<SchemaRegistry, RegisterError> {
+    let mut registry = SchemaRegistry::new(alloc);
+    for id in 1..65_536u32 {
+        put(&mut registry, alloc, id as u16, "A")?;
+    }
+    registry.clear();
+    Ok(registry)
+}
+
+#[test]
+fn a_full_registry_is_emptied(rt: HostRuntime) -> Result<(), Fail> {
+    let mut registry = emptied(rt.alloc())?;
+    assert!(rt; has_entries(&registry, &[]));
+    assert!(rt; next_id(&mut registry) == Some(256));
+    put(&mut registry, rt.alloc(), 65_535, "B")?;
+    assert!(rt; has_entries(&registry, &[(65_535, "B")]));
     Ok(())
 }

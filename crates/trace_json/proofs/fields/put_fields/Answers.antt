@@ -1,4 +1,4 @@
-use Rattle.std.proofs.Common.{◌≡◌, [], ap, refl, ◌∙◌, drop}
+use Rattle.std.proofs.Common.{[], ap, refl, ◌∙◌, drop}
 use Rattle.trace_values.specs.Refs.{ref_view}
 use Rattle.dial9_trace_format.specs.parts.Resolving.{as_pools}
 use Rattle.dial9_trace_format.specs.ShownEvents.{names_of}
@@ -22,9 +22,11 @@ fields-preserved c =
       names = c.first_name.ensures.others ∙ ap (drop 1) c.fields.invariant.names
           ∙ drop_next c.fields.value-index (names_of e.schema.now.fields);
       tokens = field_stands (as_pools e.string_pool.now e.stack_pool.now) (names_of e.schema.now.fields)
-          (names_of c.fields.names.now) ref_view e.fields.now c.fields.value-index c.value-item.result
-          c.first_name.result.0.now
-          _ _ _ _ c.fields-test.true c.value-item.is c.fields.invariant.names c.first_name.ensures.name
+          ref_view e.fields.now c.fields.value-index
+          (record {
+            inside = c.fields-test.true;
+            is = c.value-item.is;
+          }) (record { rest = c.fields.invariant.names; named = c.first_name.ensures.name })
           c.fields.invariant.tokens
           c.in-Ok-tri.ensures.ok c.in-Ok-tri-2.ensures.tokens;
       before = c.in-Ok-tri-2.ensures.before ∙ c.in-Ok-tri.ensures.room.0 ∙ c.fields.invariant.before;

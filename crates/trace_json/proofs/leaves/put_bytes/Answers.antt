@@ -9,5 +9,10 @@ returns-5-clause-tokens c =
     let text : c.as_str.result.now ≡ encode_lower c.args.bytes.now = search rules in
     let same : token.string c.as_str.result.now ≡ token.string (encode_lower c.args.bytes.now) =
     ap token.string text in
-    put_four c.end_object.result _ _ _ _ _ _ _ _ _ _ same c.in-Ok-tri-2.ensures.ok c.in-Ok-tri-3.ensures.ok
-    c.in-Ok-tri-4.ensures.ok c.end_object.ensures.ok
+    put_four c.end_object.result _ _ same (record {
+      one = _;
+      two = _;
+      first = c.in-Ok-tri-2.ensures.ok;
+      second = c.in-Ok-tri-3.ensures.ok;
+      third = c.in-Ok-tri-4.ensures.ok;
+    }) c.end_object.ensures.ok

@@ -1,10 +1,10 @@
-use Rattle.std.proofs.Common.{◌≡◌, ◌∷◌, ◌++◌, [], ap, refl, ◌∙◌, List, ℕ}
+use Rattle.std.proofs.Common.{◌∷◌, ◌++◌, [], ap, refl, ◌∙◌, List, ℕ}
 use Rattle.std.specs.List.{flat_map}
 use Rattle.std.proofs.lemmas.List.{flat_map_more}
 use Rattle.json.specs.Token.{Token}
 use Rattle.json.specs.Tree.{json_tokens}
 use Rattle.trace_json.specs.EventJson.{text_pair_json}
-use Rattle.trace_json.proofs.RawPairs.{all_left, one_stands, one_less, none_left}
+use Rattle.trace_values.proofs.RawPairs.{all_left, one_stands, one_less, none_left}
 use Rattle.trace_json.proofs.Tokens.{nothing_put}
 use Rattle.trace_json.proofs.texts.put_pairs.Goals as goal
 

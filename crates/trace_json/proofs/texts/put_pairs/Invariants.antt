@@ -2,7 +2,7 @@ use Rattle.std.proofs.Common.{◌≡◌, ℕ, List, ◌++◌}
 use Rattle.std.specs.List.{flat_map}
 use Rattle.json.specs.Tree.{json_tokens}
 use Rattle.trace_json.specs.EventJson.{text_pair_json}
-use Rattle.trace_json.proofs.RawPairs.{IsLeft}
+use Rattle.trace_values.proofs.RawPairs.{IsLeft}
 use Rattle.trace_json.proofs.texts.put_pairs.Given as goal
 
 abbrev pub invariant-pairs : goal.invariant-pairs

@@ -32,7 +32,7 @@ put_items-items-init t c = record {
 pub put_items-items-preserved : goal.put_items-items-preserved
 put_items-items-preserved t c = record {
   tokens = item_stands (as_pools c.args.strings.now c.args.stacks.now) ref_view c.args.items.now c.items.item-index
-      c.item-item.result _ _ _ c.items-test.true c.item-item.is c.items.invariant.tokens c.in-Ok-tri.ensures.tokens;
+      _ c.items-test.true c.item-item.is c.items.invariant.tokens c.in-Ok-tri.ensures.tokens;
   before = c.in-Ok-tri.ensures.before ∙ c.items.invariant.before;
 }
 
@@ -52,9 +52,9 @@ put_pairs-pairs-preserved t c =
     let p = as_pools c.args.strings.now c.args.stacks.now in
     let x = c.pair-item.result in
     record {
-      tokens = pair_stands_in p (λ y. (ref_view y.0, ref_view y.1)) c.args.pairs.now c.pairs.pair-index x
-          _ _ _ c.pairs-test.true c.pair-item.is c.pairs.invariant.tokens
-          (pair_closed (IsValueJson p (ref_view x.0)) (IsValueJson p (ref_view x.1)) _ _ _ _ _ c.in-Ok-tri.ensures.ok
+      tokens = pair_stands_in p (λ y. (ref_view y.0, ref_view y.1)) c.args.pairs.now c.pairs.pair-index
+          _ c.pairs-test.true c.pair-item.is c.pairs.invariant.tokens
+          (pair_closed (IsValueJson p (ref_view x.0)) (IsValueJson p (ref_view x.1)) _ c.in-Ok-tri.ensures.ok
           c.in-Ok-tri-2.ensures.tokens c.in-Ok-tri-3.ensures.tokens c.in-Ok-tri-4.ensures.ok);
       before = c.in-Ok-tri-4.ensures.room.0 ∙ c.in-Ok-tri-3.ensures.before ∙ c.in-Ok-tri-2.ensures.before
           ∙ c.in-Ok-tri.ensures.room.0 ∙ c.pairs.invariant.before;

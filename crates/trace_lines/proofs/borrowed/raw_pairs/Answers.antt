@@ -1,6 +1,6 @@
 use Rattle.std.proofs.Common.{◌+◌, ◌∙◌, ap, map, sym, subst, List, ℕ}
 use Rattle.std.proofs.lemmas.List.{map_push}
-use Rattle.trace_lines.proofs.RawPairs.{IsLeft, all_left, one_stands, one_less, none_left}
+use Rattle.trace_values.proofs.RawPairs.{IsLeft, all_left, one_stands, one_less, none_left}
 use Rattle.trace_lines.proofs.borrowed.raw_pairs.Goals as goal
 
 pub pairs-init : goal.pairs-init

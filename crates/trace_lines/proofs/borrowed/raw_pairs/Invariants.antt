@@ -1,5 +1,5 @@
 use Rattle.std.proofs.Common.{map}
-use Rattle.trace_lines.proofs.RawPairs.{IsLeft}
+use Rattle.trace_values.proofs.RawPairs.{IsLeft}
 use Rattle.trace_lines.proofs.borrowed.raw_pairs.Given as goal
 
 abbrev pub invariant-pairs : goal.invariant-pairs

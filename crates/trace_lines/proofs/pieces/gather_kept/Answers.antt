@@ -10,15 +10,15 @@ lines-init c = record {
 
 pub lines-preserved : goal.lines-preserved
 lines-preserved c = record {
-  gathered = (one_more c.args.decoder.now c.lines.decoder c.push_next_lines.new.decoder (string_bytes c.lines.held)
-      (string_bytes c.push_next_lines.new.line) (string_bytes c.push_str.new.self) c.in_ok-next.next c.in-Line.is
+  gathered = (one_more c.push_next_lines.new.decoder
+      (string_bytes c.push_next_lines.new.line) {after = string_bytes c.push_str.new.self} c.in-Line.is
       c.lines.invariant.gathered c.in_ok-next.ensures (rw c.deref.ensures at c.in_ok-push_str.ensures.bytes)).0;
 }
 
 pub lines-smaller : goal.lines-smaller
 lines-smaller c =
-    (one_more c.args.decoder.now c.lines.decoder c.push_next_lines.new.decoder (string_bytes c.lines.held)
-    (string_bytes c.push_next_lines.new.line) (string_bytes c.push_str.new.self) c.in_ok-next.next c.in-Line.is
+    (one_more c.push_next_lines.new.decoder
+    (string_bytes c.push_next_lines.new.line) {after = string_bytes c.push_str.new.self} c.in-Line.is
     c.lines.invariant.gathered c.in_ok-next.ensures (rw c.deref.ensures at c.in_ok-push_str.ensures.bytes)).1
 
 pub returns-in_err-next : goal.returns-in_err-next
@@ -36,13 +36,13 @@ returns-in_err-push_str c =
 
 pub returns-in-Wait : goal.returns-in-Wait
 returns-in-Wait c =
-    no_more c.args.decoder.now c.lines.decoder c.push_next_lines.new.decoder (string_bytes c.lines.held)
-    (string_bytes c.push_next_lines.new.line) (string_bytes c.push_str.new.self) c.in_ok-next.next c.in-Wait.is
+    no_more c.push_next_lines.new.decoder
+    (string_bytes c.push_next_lines.new.line) {after = string_bytes c.push_str.new.self} c.in-Wait.is
     c.lines.invariant.gathered c.in_ok-next.ensures (rw c.deref.ensures at c.in_ok-push_str.ensures.bytes)
 
 pub returns-in-End : goal.returns-in-End
 returns-in-End c =
-    last_one c.args.decoder.now c.lines.decoder c.push_next_lines.new.decoder (string_bytes c.lines.held)
-    (string_bytes c.push_next_lines.new.line) (string_bytes c.push_str.new.self) c.in_ok-next.next c.in-End.status
+    last_one c.push_next_lines.new.decoder
+    (string_bytes c.push_next_lines.new.line) {after = string_bytes c.push_str.new.self} c.in-End.status
     c.in-End.is c.lines.invariant.gathered c.in_ok-next.ensures
     (rw c.deref.ensures at c.in_ok-push_str.ensures.bytes)

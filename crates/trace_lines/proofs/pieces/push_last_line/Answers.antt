@@ -11,8 +11,8 @@ returns-then-place-fed_len c =
 
 pub returns : goal.returns
 returns c =
-    last_stopped c.args.decoder.now c.in-Some.field-0 c.position-place.result
-    (string_bytes c.push_stopped_line.new.out) (string_bytes c.args.line.now) c.requires.waiting
+    last_stopped
+    c.requires.waiting
     (sym c.version.ensures ∙ c.in-Some.is) c.position-place.ensures
     (λ x. c.if-place-fed_len.false (c.position-place.ensures ∙ x ∙ sym c.fed_len.ensures))
     c.in_ok-push_stopped_line.ensures c.requires.empty

@@ -1,15 +1,35 @@
-use Rattle.std.proofs.Common.{string_bytes}
+use Rattle.std.proofs.Common.{◌∙◌, Ok, ap, string_bytes}
 use Rattle.dial9_trace_format.specs.DecodedFrames.{item_of, next_as}
-use Rattle.trace_lines.proofs.PulledLines.{first_as, next_ok}
+use Rattle.trace_lines.specs.parts.PieceDumps.{AreNextLines}
+use Rattle.trace_lines.specs.declared.pieces.Next.TheVariants.{Wait}
+use Rattle.trace_lines.proofs.PulledLines.{first_as, next_ok, stuck_ok, was_ok}
 use Rattle.trace_lines.proofs.pieces.push_next_lines.Goals as goal
 
-pub returns : goal.returns
-returns c =
+pub returns-in-Wait : goal.returns-in-Wait
+returns-in-Wait c =
     let old = c.args.decoder.now in
     let new = c.next_frame-frame.new.self in
     let first = string_bytes c.push_first_part.new.line in
-    next_ok old new (next_as item_of c.next_frame-frame.result) first (string_bytes c.push_pulled_line.new.line)
-    c.push_pulled_line.result c.requires.fed c.next_frame-frame.ensures
+    let lines = string_bytes c.push_pulled_line.new.line in
+    let come = next_ok old new (next_as item_of c.next_frame-frame.result) first lines c.push_pulled_line.result
+    c.requires.fed c.next_frame-frame.ensures
     (first_as c.version-before.result old.version c.version.result new.version (string_bytes c.args.line.now) first
     c.version-before.ensures c.version.ensures c.requires.empty c.in_ok-push_first_part.ensures)
-    c.push_pulled_line.ensures
+    c.push_pulled_line.ensures in
+    let waits : AreNextLines old new lines Wait =
+    was_ok (AreNextLines old new lines) c.push_pulled_line.result Wait (c.in_ok-next.was ∙ ap Ok c.in-Wait.is) come in
+    stuck_ok old new lines (string_bytes c.push_stuck_line.new.line) c.push_stuck_line.result waits
+    c.push_stuck_line.ensures
+
+pub returns-in_default : goal.returns-in_default
+returns-in_default c =
+    let old = c.args.decoder.now in
+    let new = c.next_frame-frame.new.self in
+    let first = string_bytes c.push_first_part.new.line in
+    let lines = string_bytes c.push_pulled_line.new.line in
+    let come = next_ok old new (next_as item_of c.next_frame-frame.result) first lines c.push_pulled_line.result
+    c.requires.fed c.next_frame-frame.ensures
+    (first_as c.version-before.result old.version c.version.result new.version (string_bytes c.args.line.now) first
+    c.version-before.ensures c.version.ensures c.requires.empty c.in_ok-push_first_part.ensures)
+    c.push_pulled_line.ensures in
+    was_ok (AreNextLines old new lines) c.push_pulled_line.result _ c.in_ok-next.was come

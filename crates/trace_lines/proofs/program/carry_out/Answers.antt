@@ -10,6 +10,7 @@ use Rattle.trace_lines.proofs.program.carry_out.Goals as goal
 pub returns-in-Usage : goal.returns-in-Usage
 returns-in-Usage g c = record {
   asked = λ no_dump no_resolve. refl;
+  same_reader = λ no_dump no_resolve. refl;
   same_writer = λ no_dump no_resolve. refl;
   front = λ no_dump failed bytes e. ([], inl refl, [], omega arith, TookOnly-none _);
   front_of_bytes = λ dump failed. nothing_dumped _ _;
@@ -21,6 +22,7 @@ returns-in-Usage g c = record {
 pub returns-in-Dump : goal.returns-in-Dump
 returns-in-Dump g c = record {
   asked = λ no_dump no_resolve. absurd (no_dump c.in-Dump.is);
+  same_reader = λ no_dump no_resolve. absurd (no_dump c.in-Dump.is);
   same_writer = λ no_dump no_resolve. absurd (no_dump c.in-Dump.is);
   front = λ no_dump failed. absurd (no_dump c.in-Dump.is);
   front_of_bytes = λ dump failed. c.dump_pieces.ensures.front failed;
@@ -35,6 +37,7 @@ returns-in-Dump g c = record {
 pub returns-in-Resolve : goal.returns-in-Resolve
 returns-in-Resolve g c = record {
   asked = λ no_dump no_resolve. absurd (no_resolve c.in-Resolve.is);
+  same_reader = λ no_dump no_resolve. absurd (no_resolve c.in-Resolve.is);
   same_writer = λ no_dump no_resolve. absurd (no_resolve c.in-Resolve.is);
   front = λ no_dump failed.
       subst (λ (t : Task). DumpsFront (resolves t) (g.R.Read.remaining c.args.input.now)

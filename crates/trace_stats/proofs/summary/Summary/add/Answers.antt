@@ -11,9 +11,17 @@ returns-clause-added c xs s =
     let more : c.in-Some-checked_add-2.of_digits ≡ get_or old.by_digits (binary_digits c.args.number) 0 + 1 =
     search rules in
     let lt : binary_digits c.args.number < length old.by_digits = search rules in
-    one_number_more xs c.args.number old _ s count c.lesser-self.ensures.below c.lesser-self.ensures.others
-    c.lesser-self.ensures.which c.greater-self.ensures.above c.greater-self.ensures.others
-    c.greater-self.ensures.which total lt
+    one_number_more c.args.number _ s count (record {
+      below = c.lesser-self.ensures.below;
+      others = c.lesser-self.ensures.others;
+      which = c.lesser-self.ensures.which;
+    })
+    (record {
+      above = c.greater-self.ensures.above;
+      others = c.greater-self.ensures.others;
+      which = c.greater-self.ensures.which;
+    })
+    total lt
     (ap (λ (n : ℕ). set old.by_digits (binary_digits c.args.number) n) more)
 
 pub returns-in_default-checked_add-clause-full : goal.returns-in_default-checked_add-clause-full

@@ -1,0 +1,141 @@
+//! What the program prints.
+
+ghost use Rattle.std.specs.Prelude.{◌≡◌, if◌then◌else◌};
+ghost use Rattle.std.specs.Option.{is_some};
+ghost use Rattle.failing_writers.specs.Wanted.{is_wrong, one_more};
+
+use crate::afterwards::{
+    begins_again, counts_raw_bytes, fails_by_flush, keeps_old_writer, stays_failed_raw,
+};
+use crate::breaking::{Fault, Manner};
+use crate::written::{Way, is_right};
+use std::alloc::{AllocError, Global};
+use std::io::ErrorKind;
+use std::process::ExitCode;
+use worked_traces::{ALL, Worked, bytes_of, name_of};
+
+/// What writers answer that take no more.
+const FAULTS: [Fault; 3] = [
+    Fault::Error(ErrorKind::BrokenPipe),
+    Fault::Error(ErrorKind::Interrupted),
+    Fault::Zero,
+];
+
+/// How many bytes writers take at most at a time.
+const STEPS: [usize; 3] = [1, 7, 1_000_000];
+
+/// How many were tried, how many were not right, and how many have calls that no list has.
+#[derive(Clone, Copy)]
+pub struct Counts {
+    tried: u64,
+    differ: u64,
+    unlisted: u64,
+}
+
+impl Counts {
+    /// Nothing was tried.
+    pub fn new() -> Counts {
+        Counts {
+            tried: 0,
+            differ: 0,
+            unlisted: 0,
+        }
+    }
+
+    /// Counts one more, up to the greatest number of 64 bits.
+    pub fn add(&mut self, right: Option<bool>)
+        ensures tried { self.new.tried
+            ≡ (if is_some right then one_more self.old.tried else self.old.tried) }
+        ensures differ { self.new.differ
+            ≡ (if is_wrong right then one_more self.old.differ else self.old.differ) }
+        ensures unlisted { self.new.unlisted
+            ≡ (if is_some right then self.old.unlisted else one_more self.old.unlisted) }
+    {
+        match right {
+            None => self.unlisted = self.unlisted.saturating_add(1),
+            Some(right) => {
+                self.tried = self.tried.saturating_add(1);
+                if !right {
+                    self.differ = self.differ.saturating_add(1);
+                }
+            }
+        }
+    }
+}
+
+/// Runs the program.
+pub fn run(rt: &(impl AllocGlobal + Print + Eprint)) -> ExitCode {
+    match run_all(rt) {
+        Ok(true) => ExitCode::SUCCESS,
+        Ok(false) => ExitCode::FAILURE,
+        Err(error) => {
+            let _ = eprintln!(rt; "failing_writers: {error:#}");
+            ExitCode::FAILURE
+        }
+    }
+}
+
+fn run_all(rt: &(impl AllocGlobal + Print)) -> anyhow::Result<bool> {
+    let mut good = true;
+    for worked in ALL {
+        good = run_worked(rt, worked)? && good;
+    }
+    Ok(run_afterwards(rt)? && good)
+}
+
+/// Writes one trace over all writers, and prints the counts.
+fn run_worked(rt: &(impl AllocGlobal + Print), worked: Worked) -> anyhow::Result<bool> {
+    let length = bytes_of(worked).len();
+    let single = counts_by(rt.alloc(), worked, Way::Single)?;
+    let listed = counts_by(rt.alloc(), worked, Way::Listed)?;
+    let name = name_of(worked);
+    let (calls, lists) = (single.tried, listed.tried);
+    let (unlisted, differ) = (listed.unlisted, single.differ.saturating_add(listed.differ));
+    println!(rt;
+        "{name}: {length} bytes; {calls} by calls, {lists} by lists, {unlisted} not; {differ} differ"
+    )?;
+    Ok(differ == 0)
+}
+
+fn counts_by(alloc: Global, worked: Worked, way: Way) -> Result<Counts, AllocError> {
+    let mut counts = Counts::new();
+    let places = bytes_of(worked).len().saturating_add(1);
+    for place in 0..places {
+        for most in STEPS {
+            for fault in FAULTS {
+                for once in [false, true] {
+                    let manner = Manner {
+                        most,
+                        place,
+                        fault,
+                        once,
+                        flushing: None,
+                    };
+                    counts.add(is_right(alloc, worked, manner, way)?);
+                }
+            }
+        }
+    }
+    Ok(counts)
+}
+
+/// Tries what comes after a failure, and prints the counts.
+fn run_afterwards(rt: &(impl AllocGlobal + Print)) -> anyhow::Result<bool> {
+    let mut counts = Counts::new();
+    for fault in FAULTS {
+        counts.add(Some(keeps_old_writer(rt.alloc(), fault)?));
+        counts.add(Some(begins_again(rt.alloc(), fault)?));
+        counts.add(Some(stays_failed_raw(rt.alloc(), fault)?));
+        counts.add(Some(counts_raw_bytes(rt.alloc(), fault)?));
+    }
+    for kind in [
+        ErrorKind::BrokenPipe,
+        ErrorKind::Interrupted,
+        ErrorKind::StorageFull,
+    ] {
+        counts.add(Some(fails_by_flush(rt.alloc(), kind)?));
+    }
+    let (tried, differ) = (counts.tried, counts.differ);
+    println!(rt; "after a failure: {tried} tried; {differ} differ")?;
+    Ok(differ == 0)
+}

@@ -1,0 +1,185 @@
+//! A worked trace, written over a writer that fails.
+
+use crate::breaking::{Breaking, Fault, Manner};
+use crate::wanted::{answer_of, failing_call, kind_of, written_after};
+use dial9_trace_format::encoder::{Call, Encoder, Reply, run_calls};
+use dial9_trace_format::leb128::{EncodeError, Plain};
+use std::alloc::{AllocError, Global};
+use std::io::ErrorKind;
+use worked_traces::{Step, Worked, bytes_of, ends_of, make, parts_of};
+
+/// By what calls a trace is written.
+#[derive(Clone, Copy, PartialEq, Eq, Debug)]
+pub enum Way {
+    /// One after another.
+    Single,
+    /// By lists of calls.
+    Listed,
+}
+
+/// Whether all is as it should be where the trace is written over a writer of this manner: which call fails, by which
+/// answer, how many bytes are counted and which are out, and what comes afterwards. `None` where a list of calls
+/// cannot have the trace's calls.
+pub fn is_right(
+    alloc: Global,
+    worked: Worked,
+    manner: Manner,
+    way: Way,
+) -> Result<Option<bool>, AllocError> {
+    let (bytes, ends) = (bytes_of(worked), ends_of(worked));
+    let mut writer = Breaking::new(alloc, manner);
+    let mut before = 0;
+    let mut index: usize = 0;
+    for steps in parts_of(alloc, worked)? {
+        let Some(ends) = ends.get(index) else {
+            return Ok(Some(false));
+        };
+        let Some(end) = ends.last() else {
+            return Ok(Some(false));
+        };
+        let part = Part {
+            ends,
+            before,
+            manner,
+        };
+        let right = match way {
+            Way::Single => part.is_right_by_calls(alloc, &mut writer, &steps)?,
+            Way::Listed => match calls_of(alloc, steps)? {
+                Some(calls) => part.is_right_by_list(alloc, &mut writer, &calls)?,
+                None => return Ok(None),
+            },
+        };
+        if !right {
+            return Ok(Some(false));
+        }
+        if failing_call(ends, manner.place).is_some() {
+            break;
+        }
+        before = *end;
+        index = index.saturating_add(1);
+    }
+    let sent = bytes.get(..manner.place).unwrap_or(bytes);
+    Ok(Some(writer.bytes.as_slice() == sent))
+}
+
+/// The calls of the steps, where all of them are such.
+fn calls_of(alloc: Global, steps: Vec<Step>) -> Result<Option<Vec<Call>>, AllocError> {
+    let mut calls = Vec::new(alloc);
+    for step in steps {
+        match step {
+            Step::Call(call) => calls.push(call)?,
+            _ => return Ok(None),
+        }
+    }
+    Ok(Some(calls))
+}
+
+/// What one encoder writes of a trace.
+#[derive(Clone, Copy)]
+struct Part<'e> {
+    /// How many bytes there are once it was made, and after each call.
+    ends: &'e [usize],
+    /// How many there were before.
+    before: usize,
+    manner: Manner,
+}
+
+impl Part<'_> {
+    fn failing(self) -> Option<usize> {
+        failing_call(self.ends, self.manner.place)
+    }
+
+    fn kind(self) -> ErrorKind {
+        kind_of(self.manner.fault)
+    }
+
+    /// How many bytes are counted after the call of this index.
+    fn written(self, call: usize) -> u64 {
+        let end = self.ends.get(call).copied().unwrap_or(0);
+        written_after(end, self.manner.place, self.before)
+    }
+
+    /// No encoder is made, where the header meets the fault.
+    fn is_refused(self, error: EncodeError) -> bool {
+        self.failing() == Some(0) && error == EncodeError::Writer(self.kind())
+    }
+
+    fn is_right_by_calls(
+        self,
+        alloc: Global,
+        writer: &mut Breaking,
+        steps: &[Step],
+    ) -> Result<bool, AllocError> {
+        let mut encoder = match Encoder::new_to(alloc, Plain(&mut *writer)) {
+            Ok(encoder) => encoder,
+            Err(EncodeError::OutOfMemory) => return Err(AllocError),
+            Err(error) => return Ok(self.is_refused(error)),
+        };
+        Ok(self.is_answered(&mut encoder, steps))
+    }
+
+    /// Each call is answered as it should be, and so many bytes are counted; and again once one failed.
+    fn is_answered(self, encoder: &mut Encoder<Plain<&mut Breaking>>, steps: &[Step]) -> bool {
+        for i in 0..steps.len() {
+            let call = i + 1;
+            let answer = make(encoder, &steps[i]);
+            let wanted = answer_of(self.failing(), call, self.kind());
+            if answer != wanted || encoder.bytes_written() != self.written(call) {
+                return false;
+            }
+        }
+        self.failing().is_none() || self.is_failed(encoder, steps)
+    }
+
+    /// Each call is told that the encoder has failed, and nothing is counted.
+    fn is_failed(self, encoder: &mut Encoder<Plain<&mut Breaking>>, steps: &[Step]) -> bool {
+        let written = encoder.bytes_written();
+        for step in steps {
+            if make(encoder, step) != Err(EncodeError::Failed) {
+                return false;
+            }
+        }
+        encoder.flush() == Err(EncodeError::Failed) && encoder.bytes_written() == written
+    }
+
+    fn is_right_by_list(
+        self,
+        alloc: Global,
+        writer: &mut Breaking,
+        calls: &[Call],
+    ) -> Result<bool, AllocError> {
+        let mut encoder = match Encoder::new_to(alloc, Plain(&mut *writer)) {
+            Ok(encoder) => encoder,
+            Err(EncodeError::OutOfMemory) => return Err(AllocError),
+            Err(error) => return Ok(self.is_refused(error)),
+        };
+        let replies = run_calls(alloc, &mut encoder, calls)?;
+        if replies.len() != calls.len() || encoder.bytes_written() != self.written(calls.len()) {
+            return Ok(false);
+        }
+        for i in 0..replies.len() {
+            let wanted = answer_of(self.failing(), i + 1, self.kind());
+            if told_by(&replies[i]) != wanted {
+                return Ok(false);
+            }
+        }
+        Ok(true)
+    }
+}
+
+/// Whether a reply is a refusal, and which.
+fn told_by(reply: &Reply) -> Result<(), EncodeError> {
+    match reply {
+        Reply::Refused(error) => Err(*error),
+        _ => Ok(()),
+    }
+}
+
+/// Takes all, and never fails.
+pub const SOUND: Manner = Manner {
+    most: 1_000_000,
+    place: 1_000_000,
+    fault: Fault::Zero,
+    once: false,
+    flushing: None,
+};

@@ -1,0 +1,50 @@
+//! The program `gotymbe` (docs/TOOLS.md): checks, dumps, saves, joins and follows traces, and writes their events as
+//! JSON. What it decides stands in the crates `gotymbe_words` and `gotymbe_plan`; here that is joined.
+#![tactic(auto)]
+
+mod events;
+mod follow;
+mod input;
+mod output;
+mod tasks;
+
+use gotymbe_words::asked::{status_by, task_of, what_is_asked};
+use gotymbe_words::command::command;
+use std::env;
+use std::fs::File;
+use std::process::ExitCode;
+use std::rt::{Clock, Env, Files};
+use trace_lines::dump::FAILED;
+
+fn main(rt: HostRuntime) -> ExitCode {
+    match run(&rt) {
+        Ok(status) => ExitCode::from(status),
+        Err(error) => {
+            let _ = eprintln!(rt; "gotymbe: {error}");
+            ExitCode::from(FAILED)
+        }
+    }
+}
+
+/// Does what the words of the call ask for, and answers the status.
+fn run(
+    rt: &(impl AllocGlobal + Env + Files<File = File> + Input + Print + Eprint + Clock),
+) -> anyhow::Result<u8> {
+    let alloc = rt.alloc();
+    let words: Vec<String> = env::args(rt)?.collect(alloc)?;
+    let command = command(alloc)?;
+    let matches = match command.try_get_matches_from(words.as_slice()) {
+        Ok(matches) => matches,
+        Err(error) => {
+            let _ = error.print(rt);
+            return Ok(status_by(error.kind()));
+        }
+    };
+    match matches.subcommand() {
+        Some((name, given)) => match task_of(name) {
+            Some(task) => tasks::carry_out(rt, &what_is_asked(alloc, task, given)?),
+            None => Ok(FAILED),
+        },
+        None => Ok(FAILED),
+    }
+}

@@ -1,0 +1,100 @@
+-- How the reading of an input ended: the status, and what is told of it.
+use Rattle.std.specs.Prelude.{◌≡◌, ◌≢◌, ℕ, ◌==◌, List, ◌++◌, codes, Option, Some, None}
+use Rattle.std.specs.Prelude.{if◌then◌else◌}
+use Rattle.std.specs.Fmt.{decimal}
+use Rattle.std.specs.declared.io.ErrorKind.{ErrorKind}
+use Rattle.std.specs.declared.io.ErrorKind.TheVariants as errors
+use Rattle.dial9_trace_format.specs.declared.decoder.error.DecodeErrorKind.{DecodeErrorKind}
+use Rattle.dial9_trace_format.specs.declared.decoder.error.DecodeErrorKind.TheVariants as causes
+use Rattle.trace_lines.specs.Dumps.{whole_status, no_header_status, stopped_status, conflict_status, failed_status}
+use Rattle.trace_fronts.specs.declared.whole.Stop.{Stop}
+use Rattle.gotymbe_plan.specs.declared.ending.Ending.{Ending}
+use Rattle.gotymbe_plan.specs.declared.ending.Ending.TheVariants.{Whole, Stopped, OutOfMemory, Unread, Unwritten}
+use Rattle.gotymbe_plan.specs.declared.ending.Ending.TheVariants.{Dumped}
+use Rattle.gotymbe_plan.specs.Numbers.{IsGrouped}
+
+-- the ending of a front with this stop, or of all bytes
+abbrev pub stop_ending : Option Stop → Ending
+stop_ending (Some stop) = Stopped stop
+stop_ending None = Whole
+
+-- the ending of a decoder that told this kind of error at a place: want of memory, or a stop there
+pub record IsErrorEnding (place : ℕ) (kind : DecodeErrorKind) (ending : Ending) : Type 0 where
+  pub memory : kind ≡ causes.OutOfMemory → ending ≡ OutOfMemory
+  pub stop : kind ≢ causes.OutOfMemory → ending ≡ Stopped (record { place = place; cause = kind })
+
+-- the ending of a dump that failed: for the output, for the input, or for want of memory
+abbrev pub failed_ending : Option ErrorKind → Option ErrorKind → Ending
+failed_ending read (Some kind) = Unwritten kind
+failed_ending (Some kind) None = Unread kind
+failed_ending None None = OutOfMemory
+
+-- the ending of a dump with this status, where these errors came from the input and from the output
+abbrev pub dump_ending : ℕ → Option ErrorKind → Option ErrorKind → Ending
+dump_ending status read written =
+    if status == whole_status then Whole
+    else if status == failed_status then failed_ending read written
+    else Dumped status
+
+-- the status of a trace that stops
+abbrev pub stop_status : DecodeErrorKind → ℕ
+stop_status causes.NoHeader = no_header_status
+stop_status (causes.Conflict id) = conflict_status
+stop_status cause = stopped_status
+
+-- the status of the program; that of a whole trace where a pipe was closed
+abbrev pub HasStatus : Ending → ℕ → Type 0
+HasStatus Whole status = status ≡ whole_status
+HasStatus (Stopped stop) status = status ≡ stop_status stop.cause
+HasStatus OutOfMemory status = status ≡ failed_status
+HasStatus (Unread kind) status = status ≡ failed_status
+HasStatus (Unwritten kind) status =
+    (kind ≡ errors.BrokenPipe → status ≡ whole_status) × (kind ≢ errors.BrokenPipe → status ≡ failed_status)
+HasStatus (Dumped dump) status = status ≡ dump
+
+-- why no frame stands there
+abbrev pub cause_text : DecodeErrorKind → List ℕ
+cause_text causes.TruncatedEvent = codes "truncated event frame"
+cause_text (causes.UnknownTypeId id) = codes "unknown wire id " ++ decimal id.0
+cause_text causes.TruncatedDelta = codes "truncated timestamp delta"
+cause_text causes.TimestampOverflow = codes "timestamp overflow"
+cause_text causes.TruncatedPrefix = codes "truncated optional field prefix"
+cause_text causes.TruncatedOptional = codes "truncated optional field value"
+cause_text causes.TruncatedValue = codes "truncated field value"
+cause_text causes.TruncatedReset = codes "truncated timestamp reset"
+cause_text (causes.NoFrame tag) = codes "no whole frame with tag " ++ decimal tag
+cause_text (causes.Conflict id) = codes "another schema under wire id " ++ decimal id.0
+cause_text causes.OutOfMemory = codes "out of memory"
+cause_text causes.NoHeader = codes "no trace header"
+cause_text causes.InputTooLong = codes "input too long"
+
+-- what stands before a reason: the program and the file
+abbrev pub start_text : List ℕ → List ℕ
+start_text name = codes "gotymbe: " ++ name ++ codes ": "
+
+-- where a trace stops, and why
+abbrev pub stop_text : List ℕ → DecodeErrorKind → List ℕ
+stop_text place cause = codes "stops at byte " ++ place ++ (codes ": " ++ cause_text cause)
+
+abbrev pub AppendsStop : Stop → List ℕ → List ℕ → Type 0
+AppendsStop stop old new = (place : List ℕ) × IsGrouped stop.place place × (new ≡ old ++ stop_text place stop.cause)
+
+-- why reading ended; what is told of an error of the system is not said here
+abbrev pub AppendsReason : Ending → List ℕ → List ℕ → Type 0
+AppendsReason Whole old new = new ≡ old ++ codes "whole"
+AppendsReason (Stopped stop) old new = AppendsStop stop old new
+AppendsReason OutOfMemory old new = new ≡ old ++ codes "out of memory"
+AppendsReason (Unread kind) old new = (said : List ℕ) × (new ≡ old ++ (codes "cannot be read: " ++ said))
+AppendsReason (Unwritten kind) old new = (said : List ℕ) × (new ≡ old ++ (codes "cannot be written: " ++ said))
+AppendsReason (Dumped status) old new = new ≡ old ++ codes "stops where the last line of its dump tells"
+
+-- the line of a file: the program, the file and the reason, and a line feed
+abbrev pub AppendsLine : List ℕ → Ending → List ℕ → List ℕ → Type 0
+AppendsLine name ending old new = (text : List ℕ) × AppendsReason ending (old ++ start_text name) text
+    × (new ≡ text ++ codes "\n")
+
+-- something is told of every ending but two: where reading ended well, and where a pipe was closed
+abbrev pub IsTold : Ending → Type 0
+IsTold Whole = ⊥
+IsTold (Unwritten kind) = kind ≢ errors.BrokenPipe
+IsTold ending = Unit {0}

@@ -1,0 +1,5 @@
+pub mod Endings
+pub mod Filters
+pub mod Following
+pub mod Numbers
+pub mod Outputs

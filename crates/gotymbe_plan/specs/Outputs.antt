@@ -1,0 +1,14 @@
+-- How a file is written.
+use Rattle.std.specs.Prelude.{Bool, true, false}
+use Rattle.gotymbe_plan.specs.declared.output.Standing.{Standing}
+use Rattle.gotymbe_plan.specs.declared.output.Standing.TheVariants.{Nothing, File, Other}
+use Rattle.gotymbe_plan.specs.declared.output.Way.{Way}
+use Rattle.gotymbe_plan.specs.declared.output.Way.TheVariants.{Beside, InPlace, Into, Refused}
+
+-- beside its name where nothing stands there; over a file only where that is forced, and into a pipe or a device
+abbrev pub way_for : Standing → Bool → Way
+way_for Nothing force = Beside
+way_for File true = InPlace
+way_for File false = Refused
+way_for Other true = Into
+way_for Other false = Refused

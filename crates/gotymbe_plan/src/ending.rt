@@ -1,0 +1,247 @@
+//! How the reading of an input ended: the status, and what is told of it.
+
+ghost use Rattle.std.specs.Prelude.{◌≡◌, ◌≢◌, ◌↔◌, ◌++◌, OnOk, IsTrue, codes, string_bytes};
+ghost use Rattle.trace_lines.specs.Appending.{AppendsText};
+ghost use Rattle.trace_lines.specs.Dumps.{failed_status};
+ghost use Rattle.gotymbe_plan.specs.Endings.{stop_ending, IsErrorEnding, dump_ending, HasStatus, stop_status};
+ghost use Rattle.gotymbe_plan.specs.Endings.{IsTold, AppendsLine, AppendsReason, AppendsStop};
+ghost use Rattle.gotymbe_plan.specs.Endings.{start_text, cause_text};
+
+use crate::numbers::push_grouped;
+use dial9_trace_format::decoder::{DecodeError, DecodeErrorKind};
+use std::alloc::AllocError;
+use std::io::ErrorKind;
+use trace_fronts::whole::Stop;
+use trace_lines::dump::{CONFLICT, FAILED, NO_HEADER, STOPPED, WHOLE};
+
+/// How the reading of an input ended.
+#[derive(Clone, Copy, Debug, PartialEq, Eq)]
+pub enum Ending {
+    /// All of it was read, or all that was asked for.
+    Whole,
+    /// No frame stands at a place, or a schema that conflicts.
+    Stopped(Stop),
+    /// A growth was refused.
+    OutOfMemory,
+    /// It could not be opened or read, by this kind of error.
+    Unread(ErrorKind),
+    /// What was made of it could not be written, by this kind of error.
+    Unwritten(ErrorKind),
+    /// It was dumped up to where it stops, with this status; the last line of the dump tells the place.
+    Dumped(u8),
+}
+
+impl Ending {
+    /// That of a front with this stop, or of all bytes.
+    pub fn of_stop(stop: Option<Stop>) -> Ending
+        ensures { result ≡ stop_ending stop }
+    {
+        match stop {
+            Some(stop) => Ending::Stopped(stop),
+            None => Ending::Whole,
+        }
+    }
+
+    /// That of a decoder that told this error.
+    pub fn of_error(error: DecodeError) -> Ending
+        ensures { IsErrorEnding error.pos error.kind result }
+    {
+        match error.kind {
+            DecodeErrorKind::OutOfMemory => Ending::OutOfMemory,
+            _ => Ending::Stopped(Stop {
+                place: error.pos,
+                cause: error.kind,
+            }),
+        }
+    }
+}
+
+/// The ending of a dump with this status, where these kinds of errors came last from the input and from the output.
+pub fn dump_ending(status: u8, read: Option<ErrorKind>, written: Option<ErrorKind>) -> Ending
+    ensures { result ≡ dump_ending status read written }
+{
+    if status == WHOLE {
+        return Ending::Whole;
+    }
+    if status != FAILED {
+        return Ending::Dumped(status);
+    }
+    match (written, read) {
+        (Some(kind), _) => Ending::Unwritten(kind),
+        (None, Some(kind)) => Ending::Unread(kind),
+        (None, None) => Ending::OutOfMemory,
+    }
+}
+
+/// Whether a file is kept that was written with this status: unless that is 4.
+pub fn is_kept(status: u8) -> bool
+    ensures { IsTrue result ↔ (status ≢ failed_status) }
+{
+    status != FAILED
+}
+
+/// The status of the program: those of `tracedump`, and that of a whole trace where a pipe was closed that is written
+/// to.
+pub fn status_of(ending: Ending) -> u8
+    ensures { HasStatus ending result }
+{
+    match ending {
+        Ending::Whole => WHOLE,
+        Ending::Stopped(stop) => stop_status(stop.cause),
+        Ending::OutOfMemory => FAILED,
+        Ending::Unread(_) => FAILED,
+        Ending::Unwritten(kind) => {
+            if kind == ErrorKind::BrokenPipe {
+                WHOLE
+            } else {
+                FAILED
+            }
+        }
+        Ending::Dumped(status) => status,
+    }
+}
+
+// The status of a trace that stops.
+fn stop_status(cause: DecodeErrorKind) -> u8
+    ensures { result ≡ stop_status cause }
+{
+    match cause {
+        DecodeErrorKind::NoHeader => NO_HEADER,
+        DecodeErrorKind::Conflict(_) => CONFLICT,
+        DecodeErrorKind::TruncatedEvent
+        | DecodeErrorKind::UnknownTypeId(_)
+        | DecodeErrorKind::TruncatedDelta
+        | DecodeErrorKind::TimestampOverflow
+        | DecodeErrorKind::TruncatedPrefix
+        | DecodeErrorKind::TruncatedOptional
+        | DecodeErrorKind::TruncatedValue
+        | DecodeErrorKind::TruncatedReset
+        | DecodeErrorKind::NoFrame(_)
+        | DecodeErrorKind::OutOfMemory
+        | DecodeErrorKind::InputTooLong => STOPPED,
+    }
+}
+
+/// Appends the line that tells how the reading of a file ended, its cause and its place; nothing where it ended well,
+/// or where a pipe was closed that is written to. `AllocError` where a growth was refused.
+pub fn push_message(out: &mut String, name: &str, ending: Ending) -> Result<(), AllocError>
+    ensures told { IsTold ending → OnOk result
+        (AppendsLine name.now ending (string_bytes out.old) (string_bytes out.new)) }
+    ensures untold { ¬ IsTold ending → string_bytes out.new ≡ string_bytes out.old }
+{
+    if is_told(ending) {
+        return push_line(out, name, ending);
+    }
+    Ok(())
+}
+
+// Whether anything is told: not where reading ended well, or where a pipe was closed.
+fn is_told(ending: Ending) -> bool
+    ensures { IsTrue result ↔ IsTold ending }
+{
+    match ending {
+        Ending::Whole => false,
+        Ending::Unwritten(kind) => kind != ErrorKind::BrokenPipe,
+        Ending::Stopped(_) => true,
+        Ending::OutOfMemory => true,
+        Ending::Unread(_) => true,
+        Ending::Dumped(_) => true,
+    }
+}
+
+// Appends the program, the file and the reason.
+fn push_line(out: &mut String, name: &str, ending: Ending) -> Result<(), AllocError>
+    ensures { OnOk result
+        (AppendsLine name.now ending (string_bytes out.old) (string_bytes out.new)) }
+{
+    push_start(out, name)?;
+    push_reason(out, ending)?;
+    out.push('\n')
+}
+
+// Appends the program and the file.
+fn push_start(out: &mut String, name: &str) -> Result<(), AllocError>
+    ensures { AppendsText (start_text name.now) out.old out.new result }
+{
+    out.push_str("gotymbe: ")?;
+    out.push_str(name)?;
+    out.push_str(": ")
+}
+
+// Appends why reading ended.
+fn push_reason(out: &mut String, ending: Ending) -> Result<(), AllocError>
+    ensures { OnOk result
+        (AppendsReason ending (string_bytes out.old) (string_bytes out.new)) }
+{
+    match ending {
+        Ending::Whole => out.push_str("whole"),
+        Ending::Stopped(stop) => push_stop(out, stop),
+        Ending::OutOfMemory => out.push_str("out of memory"),
+        Ending::Unread(kind) => push_both(out, "cannot be read: ", error_text(kind)),
+        Ending::Unwritten(kind) => push_both(out, "cannot be written: ", error_text(kind)),
+        Ending::Dumped(_) => out.push_str("stops where the last line of its dump tells"),
+    }
+}
+
+// Appends one text after another.
+fn push_both(out: &mut String, first: &str, second: &str) -> Result<(), AllocError>
+    ensures { AppendsText (first.now ++ second.now) out.old out.new result }
+{
+    out.push_str(first)?;
+    out.push_str(second)
+}
+
+// Appends where no frame stands, and why.
+fn push_stop(out: &mut String, stop: Stop) -> Result<(), AllocError>
+    ensures { OnOk result (AppendsStop stop (string_bytes out.old) (string_bytes out.new)) }
+{
+    out.push_str("stops at byte ")?;
+    push_grouped(out, stop.place as u64)?;
+    push_after_place(out, stop.cause)
+}
+
+// Appends a colon, and why no frame stands there.
+fn push_after_place(out: &mut String, cause: DecodeErrorKind) -> Result<(), AllocError>
+    ensures { AppendsText (codes ": " ++ cause_text cause) out.old out.new result }
+{
+    out.push_str(": ")?;
+    push_cause(out, cause)
+}
+
+// Appends why no frame stands there.
+fn push_cause(out: &mut String, cause: DecodeErrorKind) -> Result<(), AllocError>
+    ensures { AppendsText (cause_text cause) out.old out.new result }
+{
+    match cause {
+        DecodeErrorKind::TruncatedEvent => out.push_str("truncated event frame"),
+        DecodeErrorKind::UnknownTypeId(id) => write!(out, "unknown wire id {}", id.0),
+        DecodeErrorKind::TruncatedDelta => out.push_str("truncated timestamp delta"),
+        DecodeErrorKind::TimestampOverflow => out.push_str("timestamp overflow"),
+        DecodeErrorKind::TruncatedPrefix => out.push_str("truncated optional field prefix"),
+        DecodeErrorKind::TruncatedOptional => out.push_str("truncated optional field value"),
+        DecodeErrorKind::TruncatedValue => out.push_str("truncated field value"),
+        DecodeErrorKind::TruncatedReset => out.push_str("truncated timestamp reset"),
+        DecodeErrorKind::NoFrame(tag) => write!(out, "no whole frame with tag {tag}"),
+        DecodeErrorKind::Conflict(id) => write!(out, "another schema under wire id {}", id.0),
+        DecodeErrorKind::OutOfMemory => out.push_str("out of memory"),
+        DecodeErrorKind::NoHeader => out.push_str("no trace header"),
+        DecodeErrorKind::InputTooLong => out.push_str("input too long"),
+    }
+}
+
+// What is told of a kind of error.
+fn error_text(kind: ErrorKind) -> &'static str {
+    match kind {
+        ErrorKind::NotFound => "no such file or folder",
+        ErrorKind::PermissionDenied => "permission denied",
+        ErrorKind::AlreadyExists => "is there already (--force writes in its place)",
+        ErrorKind::IsADirectory => "is a folder",
+        ErrorKind::NotADirectory => "a part of the name is no folder",
+        ErrorKind::StorageFull => "no space left",
+        ErrorKind::ReadOnlyFilesystem => "read-only file system",
+        ErrorKind::FileTooLarge => "file too large",
+        ErrorKind::WriteZero => "nothing more is taken",
+        ErrorKind::OutOfMemory => "out of memory",
+        _ => "input or output error",
+    }
+}

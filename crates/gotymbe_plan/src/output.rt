@@ -1,0 +1,40 @@
+//! How a file is written.
+
+ghost use Rattle.std.specs.Prelude.{◌≡◌};
+ghost use Rattle.gotymbe_plan.specs.Outputs.{way_for};
+
+/// What stands under the name of a file that is to be written.
+#[derive(Clone, Copy, Debug, PartialEq, Eq)]
+pub enum Standing {
+    /// Nothing.
+    Nothing,
+    /// A file of bytes.
+    File,
+    /// Anything else, as a pipe or a device.
+    Other,
+}
+
+/// How a file is to be written.
+#[derive(Clone, Copy, Debug, PartialEq, Eq)]
+pub enum Way {
+    /// Beside its name, and under it once it is whole, unless a file came there meanwhile.
+    Beside,
+    /// Beside its name, and in place of what stands there once it is whole.
+    InPlace,
+    /// Into what stands there.
+    Into,
+    /// Not at all: something stands there.
+    Refused,
+}
+
+/// How a file is to be written: over what stands there only where that is forced.
+pub fn way_of(standing: Standing, force: bool) -> Way
+    ensures { result ≡ way_for standing force }
+{
+    match (standing, force) {
+        (Standing::Nothing, _) => Way::Beside,
+        (Standing::File, true) => Way::InPlace,
+        (Standing::Other, true) => Way::Into,
+        (_, false) => Way::Refused,
+    }
+}

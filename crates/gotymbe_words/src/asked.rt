@@ -1,0 +1,135 @@
+//! What the words of a call ask for.
+
+ghost use Rattle.std.specs.Prelude.{◌≡◌, ◌↔◌, IsTrue, IfOk, map};
+ghost use Rattle.gotymbe_words.specs.Asking.{IsTaskNamed, IsAsked, values_of, IsNumberOf, Selects, status_by};
+
+use clap::ArgMatches;
+use clap::error::ErrorKind;
+use std::alloc::{AllocError, Global};
+
+/// What is done.
+#[derive(Clone, Copy, Debug, PartialEq, Eq)]
+pub enum Task {
+    /// Tells whether traces are whole.
+    Check,
+    /// Writes the lines of what traces hold.
+    Dump,
+    /// Writes events as lines of JSON.
+    Json,
+    /// Saves what reads whole of a trace.
+    Salvage,
+    /// Joins traces.
+    Join,
+    /// Writes the lines of a trace as it grows.
+    Follow,
+}
+
+/// What the words of a call ask for.
+#[derive(Debug, Drop)]
+pub struct Asked<'a> {
+    /// What is done.
+    pub task: Task,
+    /// The names of the files that are read; `-` is standard input.
+    pub files: Vec<&'a str>,
+    /// The names of the events that are shown; of all where none is listed.
+    pub events: Vec<&'a str>,
+    /// The name of the file that is written; `None` for standard output.
+    pub output: Option<&'a str>,
+    /// Whether that may stand in place of a file that is there.
+    pub force: bool,
+    /// No event before this time is shown, in nanoseconds of the trace's clock.
+    pub from: Option<u64>,
+    /// No event after this time is shown.
+    pub to: Option<u64>,
+    /// At most so many events are shown.
+    pub limit: Option<u64>,
+    /// Whether ids of the pools are resolved.
+    pub resolve: bool,
+    /// Whether saving goes on after a damaged part.
+    pub resync: bool,
+    /// After so many seconds without growth following ends.
+    pub idle: Option<u64>,
+}
+
+impl Asked<'_> {
+    /// Whether some events alone are asked for.
+    pub fn selects(&self) -> bool
+        ensures { IsTrue result ↔ Selects self.now }
+    {
+        self.from.is_some() || self.to.is_some() || self.limit.is_some() || !self.events.is_empty()
+    }
+}
+
+/// The task of a subcommand's name.
+pub fn task_of(name: &str) -> Option<Task>
+    ensures { IsTaskNamed name.now result }
+{
+    match name {
+        "check" => Some(Task::Check),
+        "dump" => Some(Task::Dump),
+        "json" => Some(Task::Json),
+        "salvage" => Some(Task::Salvage),
+        "join" => Some(Task::Join),
+        "follow" => Some(Task::Follow),
+        _ => None,
+    }
+}
+
+/// What the words that were given to a subcommand ask for. `AllocError` where a growth was refused.
+pub fn what_is_asked<'a>(
+    alloc: Global,
+    task: Task,
+    given: &ArgMatches<'a>,
+) -> Result<Asked<'a>, AllocError>
+    ensures { IfOk result (IsAsked task given.now) }
+{
+    let files = values_of(alloc, given, "file")?;
+    let events = values_of(alloc, given, "event")?;
+    Ok(Asked {
+        task,
+        files,
+        events,
+        output: given.get_str("output"),
+        force: given.get_flag("force"),
+        from: number_of(given, "from"),
+        to: number_of(given, "to"),
+        limit: number_of(given, "limit"),
+        resolve: given.get_flag("resolve"),
+        resync: given.get_flag("resync"),
+        idle: number_of(given, "idle"),
+    })
+}
+
+// The values of an id, none where it has none.
+fn values_of<'a>(
+    alloc: Global,
+    given: &ArgMatches<'a>,
+    id: &str,
+) -> Result<Vec<&'a str>, AllocError>
+    ensures { IfOk result (λ v. map (λ s. s.now) v.items ≡ values_of given.now id.now) }
+{
+    let mut values = Vec::new(alloc);
+    if let Some(found) = given.get_strs(id) {
+        values.extend_from_slice(found)?;
+    }
+    Ok(values)
+}
+
+// The number that is given for an id.
+fn number_of(given: &ArgMatches<'_>, id: &str) -> Option<u64>
+    ensures { IsNumberOf given.now id.now result }
+{
+    given.get_one::<u64>(id)
+}
+
+/// The status where a call's words could not be read: none of a request for help or the version, 4 where a growth was
+/// refused, and else 64.
+pub fn status_by(kind: ErrorKind) -> u8
+    ensures { result ≡ status_by kind }
+{
+    match kind {
+        ErrorKind::DisplayHelp | ErrorKind::DisplayVersion => 0,
+        ErrorKind::OutOfMemory => 4,
+        _ => 64,
+    }
+}

@@ -1,0 +1,16 @@
+use Rattle.std.proofs.Common.{refl}
+use Rattle.trace_cuts.proofs.CutLemmas.{hidden_shorter, header_copied, reset_passed}
+use Rattle.trace_cuts.proofs.copying.Copying.copy_hidden.Goals as goal
+
+pub keep-requires : goal.keep-requires
+keep-requires c = hidden_shorter c.args.self.now.rest.now c.args.hidden c.args.after c.requires
+
+pub returns-in-Ok-tri : goal.returns-in-Ok-tri
+returns-in-Ok-tri c =
+    header_copied c.args.self.now _ c.args.hidden c.args.after c.in-Header.is c.requires c.take_hidden_step.ensures
+    refl refl c.in-Ok-tri.ensures
+
+pub returns-in-Reset : goal.returns-in-Reset
+returns-in-Reset c =
+    reset_passed c.args.self.now _ c.args.hidden c.args.after c.in-Reset.is c.requires
+    c.take_hidden_step-in-Reset.ensures refl refl refl

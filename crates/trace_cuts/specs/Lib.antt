@@ -1,0 +1,4 @@
+pub mod Ranges
+pub mod Cuts
+pub mod Sent
+pub mod parts

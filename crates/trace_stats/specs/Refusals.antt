@@ -1,0 +1,13 @@
+-- Why an event is not counted.
+use Rattle.std.specs.Prelude.{◌≡◌, ◌≤◌, List, length}
+use Rattle.trace_stats.specs.Summaries.{most_counted}
+use Rattle.trace_stats.specs.Events.{Counted}
+use Rattle.trace_stats.specs.Traces.{AreStatsOf}
+use Rattle.trace_stats.specs.declared.trace.TraceStats.{TraceStats}
+use Rattle.trace_stats.specs.declared.trace.StatsError.{StatsError}
+use Rattle.trace_stats.specs.declared.trace.StatsError.TheVariants.{OutOfMemory, Full}
+
+-- a growth was refused, and all that is kept is as it was; or no more can be counted
+abbrev pub RefusesEvent : TraceStats → TraceStats → StatsError → Type 0
+RefusesEvent old new OutOfMemory = new.schemas.items ≡ old.schemas.items
+RefusesEvent old new Full = (es : List Counted) → AreStatsOf es old → most_counted ≤ length es

@@ -1,0 +1,260 @@
+//! Traces that are fed in pieces, and of which no frame comes any more.
+
+use crate::tests::traces::{HEADER, ONE_EVENT};
+use dial9_trace_format::codec::WireTypeId;
+use dial9_trace_format::decoder::{DecodeErrorKind, FeedDecoder};
+use std::alloc::{AllocError, Global};
+use std::test::Fail;
+
+/// The schema `Ev`, of wire id 256, with one field `v` of type Varint.
+const NUMBERS: [u8; 14] = [1, 0, 1, 2, 0, 0x45, 0x76, 1, 1, 0, 1, 0, 0x76, 9];
+
+/// The same with one field of type List.
+const LISTS: [u8; 14] = [1, 0, 1, 2, 0, 0x45, 0x76, 1, 1, 0, 1, 0, 0x76, 14];
+
+/// The tag, the wire id 256 and the delta 0 of an event.
+const AN_EVENT: [u8; 6] = [2, 0, 1, 0, 0, 0];
+
+/// Ten bytes after which a number goes on.
+const ENDLESS: [u8; 10] = [0xFF; 10];
+
+/// Frames that stand whole, and then bytes of which no frame comes; why not, and where the last of these bytes shows
+/// that, from the first of the latter on.
+type Row = (&'static [u8], &'static [u8], DecodeErrorKind, usize);
+
+const ROWS: [Row; 12] = [
+    // a tag that is none
+    (&[], &[0xFF], DecodeErrorKind::NoFrame(0xFF), 0),
+    // the first byte of a header, and other bytes than its next ones
+    (
+        &[],
+        &[0x54, 0x52, 0x43, 1, 1],
+        DecodeErrorKind::NoFrame(0x54),
+        1,
+    ),
+    // a wire id without a schema
+    (
+        &[],
+        &[2, 9, 0],
+        DecodeErrorKind::UnknownTypeId(WireTypeId(9)),
+        1,
+    ),
+    // the schema's name
+    (&[], &[1, 0, 1, 1, 0, 0xFF], DecodeErrorKind::NoFrame(1), 3),
+    // the name of its field
+    (
+        &[],
+        &[1, 0, 1, 1, 0, 0x45, 1, 1, 0, 1, 0, 0xFF],
+        DecodeErrorKind::NoFrame(1),
+        9,
+    ),
+    // the type of its field
+    (
+        &[],
+        &[1, 0, 1, 1, 0, 0x45, 1, 1, 0, 1, 0, 0x76, 0x7F],
+        DecodeErrorKind::NoFrame(1),
+        12,
+    ),
+    // the key of an annotation, and its value
+    (
+        &[],
+        &[6, 1, 1, 0, 0, 0, 1, 0, 0xFF],
+        DecodeErrorKind::NoFrame(6),
+        6,
+    ),
+    (
+        &[],
+        &[6, 1, 1, 0, 0, 0, 1, 0, 0x61, 1, 0, 0, 0, 0xFF],
+        DecodeErrorKind::NoFrame(6),
+        9,
+    ),
+    // the wire id 65,536 of annotations
+    (&[], &[6, 0x80, 0x80, 4], DecodeErrorKind::NoFrame(6), 1),
+    // 1,000,001 items
+    (
+        &LISTS,
+        &[2, 0, 1, 0, 0, 0, 0x41, 0x42, 0x0F, 0],
+        DecodeErrorKind::TruncatedValue,
+        6,
+    ),
+    // an item of no type
+    (
+        &LISTS,
+        &[2, 0, 1, 0, 0, 0, 1, 0, 0, 0, 0x7F],
+        DecodeErrorKind::TruncatedValue,
+        10,
+    ),
+    // an event past the greatest time: the last frame that stands whole sets the base time to it
+    (
+        &[
+            1, 0, 1, 2, 0, 0x45, 0x76, 1, 1, 0, 1, 0, 0x76, 9, 5, 0xFF, 0xFF, 0xFF, 0xFF, 0xFF,
+            0xFF, 0xFF, 0xFF,
+        ],
+        &[2, 0, 1, 1, 0, 0],
+        DecodeErrorKind::TimestampOverflow,
+        3,
+    ),
+];
+
+/// Takes all frames that are whole.
+fn pull_all(decoder: &mut FeedDecoder) -> Result<(), Fail> {
+    for _ in 0..10 {
+        if decoder.next_frame()?.is_none() {
+            return Ok(());
+        }
+    }
+    Err("frames without an end")?
+}
+
+/// The decoder works, and tells that no frame comes, for this reason and here.
+fn sticks(decoder: &FeedDecoder, kind: DecodeErrorKind, place: usize) -> bool {
+    let Some(error) = decoder.stuck() else {
+        return false;
+    };
+    error.kind == kind && error.pos == place && decoder.fault().is_none()
+}
+
+/// After these bytes and all but one of those, frames may come; with the last one they do not, nor after more bytes.
+fn shows_at_last(
+    alloc: Global,
+    whole: &[u8],
+    cut: &[u8],
+    kind: DecodeErrorKind,
+    place: usize,
+) -> Result<bool, Fail> {
+    let (last, front) = cut.split_last().ok_or("no bytes")?;
+    let mut decoder = FeedDecoder::new(alloc);
+    decoder.push(&HEADER)?;
+    decoder.push(whole)?;
+    decoder.push(front)?;
+    pull_all(&mut decoder)?;
+    if decoder.stuck().is_some() {
+        return Ok(false);
+    }
+    decoder.push(&[*last])?;
+    pull_all(&mut decoder)?;
+    let first = sticks(&decoder, kind, place);
+    decoder.push(&[0; 100])?;
+    pull_all(&mut decoder)?;
+    Ok(first && sticks(&decoder, kind, place))
+}
+
+/// The same, fed byte by byte.
+fn shows_byte_by_byte(
+    alloc: Global,
+    whole: &[u8],
+    cut: &[u8],
+    kind: DecodeErrorKind,
+    place: usize,
+) -> Result<bool, Fail> {
+    let mut decoder = FeedDecoder::new(alloc);
+    decoder.feed(&HEADER)?;
+    decoder.feed(whole)?;
+    for piece in cut.chunks(1) {
+        if decoder.stuck().is_some() {
+            return Ok(false);
+        }
+        decoder.feed(piece)?;
+    }
+    Ok(
+        sticks(&decoder, kind, place)
+            && decoder.position() == HEADER.len().saturating_add(whole.len()),
+    )
+}
+
+fn shows(
+    alloc: Global,
+    whole: &[u8],
+    cut: &[u8],
+    kind: DecodeErrorKind,
+    place: usize,
+) -> Result<bool, Fail> {
+    let there = HEADER
+        .len()
+        .saturating_add(whole.len())
+        .saturating_add(place);
+    Ok(
+        shows_at_last(alloc, whole, cut, kind, there)?
+            && shows_byte_by_byte(alloc, whole, cut, kind, there)?,
+    )
+}
+
+#[test]
+fn each_cause(rt: HostRuntime) -> Result<(), Fail> {
+    for (whole, cut, kind, place) in ROWS {
+        assert!(rt; shows(rt.alloc(), whole, cut, kind, place)?);
+    }
+    Ok(())
+}
+
+/// An event of these bytes after its delta.
+fn event_of(alloc: Global, field: &[u8]) -> Result<Vec<u8>, AllocError> {
+    let mut bytes = Vec::new(alloc);
+    bytes.extend_from_slice(&AN_EVENT)?;
+    bytes.extend_from_slice(field)?;
+    Ok(bytes)
+}
+
+#[test]
+fn numbers_without_an_end(rt: HostRuntime) -> Result<(), Fail> {
+    let event = event_of(rt.alloc(), &ENDLESS)?;
+    assert!(rt;
+        shows(
+            rt.alloc(),
+            &NUMBERS,
+            event.as_slice(),
+            DecodeErrorKind::TruncatedValue,
+            6
+        )?
+    );
+    let mut notes = vec![in rt.alloc(); 6]?;
+    notes.extend_from_slice(&ENDLESS)?;
+    assert!(rt;
+        shows(
+            rt.alloc(),
+            &[],
+            notes.as_slice(),
+            DecodeErrorKind::NoFrame(6),
+            1
+        )?
+    );
+    Ok(())
+}
+
+/// The field of an event: so many lists of one item, one in the other, and the tag of a number.
+fn deep(alloc: Global, lists: usize) -> Result<Vec<u8>, AllocError> {
+    let mut bytes = Vec::new(alloc);
+    for _ in 1..lists {
+        bytes.extend_from_slice(&[1, 0, 0, 0, 14])?;
+    }
+    bytes.extend_from_slice(&[1, 0, 0, 0, 9])?;
+    Ok(bytes)
+}
+
+#[test]
+fn lists_too_deep(rt: HostRuntime) -> Result<(), Fail> {
+    let field = deep(rt.alloc(), 33)?;
+    let event = event_of(rt.alloc(), field.as_slice())?;
+    assert!(rt;
+        shows(
+            rt.alloc(),
+            &LISTS,
+            event.as_slice(),
+            DecodeErrorKind::TruncatedValue,
+            170
+        )?
+    );
+    Ok(())
+}
+
+/// Frames that can come still are waited for, wherever they are cut.
+#[test]
+fn whole_traces_do_not_stick(rt: HostRuntime) -> Result<(), Fail> {
+    for cut in 0..ONE_EVENT.len() {
+        let mut decoder = FeedDecoder::new(rt.alloc());
+        decoder.push(&ONE_EVENT[..cut])?;
+        pull_all(&mut decoder)?;
+        assert!(rt; decoder.stuck().is_none());
+    }
+    Ok(())
+}
