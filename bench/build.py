@@ -1,10 +1,8 @@
 #!/usr/bin/env python3
 """Builds the benchmark: the library's side, as two proved static libraries, and the driver over both.
 
-build.py ORIGINAL FOLDER
-    ORIGINAL is the folder of the original's package, with its Cargo.toml; FOLDER is where all is built. Run again after a change of the
-    library or of the workloads: what is unchanged is not proved again.
-"""
+build.py ORIGINAL FOLDER ORIGINAL is the folder of the original's package, with its Cargo.toml; FOLDER is where all is
+built. Run again after a change of the library or of the workloads: what is unchanged is not proved again. """
 import os
 import shutil
 import subprocess
@@ -28,7 +26,8 @@ def copy_crate(name, port):
 
 
 def write_side(name, port):
-    """Writes a crate of workloads, whose files have one ending more in the repository, so that its gate reads none of them."""
+    """Writes a crate of workloads, whose files have one ending more in the repository, so that its gate reads none of
+    them."""
     for at, _, files in os.walk(f"{BENCH}/library/{name}"):
         to = f"{port}/crates/{name}/{os.path.relpath(at, f'{BENCH}/library/{name}')}"
         os.makedirs(to, exist_ok=True)

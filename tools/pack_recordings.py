@@ -8,13 +8,13 @@ Run once for each set, by hand; the gate does not run it:
     python3 tools/pack_recordings.py model crates/trace_replay/data/model.txt RECORDINGS/model/public
     python3 tools/pack_recordings.py types crates/trace_replay/data/types.txt RECORDINGS/types RECORDINGS/types/model
 
-The recordings at the end of model.txt whose name begins with `worked-` are kept by hand: what is packed stands before them.
+The recordings at the end of model.txt whose name begins with `worked-` are kept by hand: what is packed stands before
+them.
 
-A folder of recordings has NAME.bin (the bytes of a trace), NAME.txt (its dump), NAME.script where the trace was made by
-calls, and EXTRA.txt, whose parts under `## NAME` are `# replies`, the reply to each call; `# resolve STATUS`, the dump with
-resolved events; `# sink STATUS`, what a sink was given; and `# borrowed STATUS`, the dump of the borrowed reader, where it is
-another.
-"""
+A folder of recordings has NAME.bin (the bytes of a trace), NAME.txt (its dump), NAME.script where the trace was made
+by calls, and EXTRA.txt, whose parts under `## NAME` are `# replies`, the reply to each call; `# resolve STATUS`, the
+dump with resolved events; `# sink STATUS`, what a sink was given; and `# borrowed STATUS`, the dump of the borrowed
+reader, where it is another. """
 import pathlib
 import re
 import sys

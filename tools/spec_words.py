@@ -1,7 +1,8 @@
 """The definitions of specs/ as a graph: which words stand in public contracts, and on which words these stand.
 
-Used by tools/public_words. The model is the words of public contracts and all on which they stand; its definitions are in
-the files of specs/. What private contracts alone use is in specs/parts/, by the folder of the sources that use it."""
+Used by tools/public_words. The model is the words of public contracts and all on which they stand; its definitions
+are in the files of specs/. What private contracts alone use is in specs/parts/, by the folder of the sources that use
+it."""
 import glob
 import importlib.machinery
 import importlib.util
@@ -41,7 +42,8 @@ class Block:
             comment = []
 
     def add(self, line):
-        """Notes the name that a line of a definition begins with, if it is its signature; and answers which kind it is."""
+        """Notes the name that a line of a definition begins with, if it is its signature; and answers which kind it
+        is."""
         begins = re.match(rf"(?:(?:abbrev|unfoldable) )*(?:pub )?(record |data )?({NAME})(.*)$", line)
         if not begins:
             return None
