@@ -3,7 +3,7 @@ use Rattle.std.specs.Prelude.{ℕ, ◌+◌, ◌||◌, Bool, List, [], ◌∷◌,
 use Rattle.std.specs.Prelude.{nat_lt, nat_eq, bytes_eq}
 use Rattle.std.specs.Char.{to_ascii_lowercase}
 use Rattle.std.specs.Fmt.{decimal}
-use Rattle.std.specs.List.{list_any, iota}
+use Rattle.std.specs.List.{list_any, range_with_len}
 use Rattle.trace_wire.specs.Schemas.{Field}
 
 abbrev pub time_name : List ℕ
@@ -24,12 +24,10 @@ same_name a b = bytes_eq (map to_ascii_lowercase a) (map to_ascii_lowercase b)
 abbrev pub is_among : List Field → List ℕ → Bool
 is_among fields name = list_any (λ f. same_name f.name name) fields
 
-abbrev pub has_mark : List ℕ → Bool
-has_mark name = list_any (λ b. nat_eq b mark) name
-
--- a control character or a quotation mark stands in a name
+-- a character stands in it that has no place in a column's name: a control character, a quotation mark, the mark of
+-- numbers
 abbrev pub is_unfit : List ℕ → Bool
-is_unfit name = list_any (λ b. nat_lt b 32 || nat_eq b 34) name
+is_unfit name = list_any (λ b. nat_lt b 32 || (nat_eq b 34 || nat_eq b mark)) name
 
 -- the name of the field at a place
 abbrev pub name_at : List Field → ℕ → List ℕ
@@ -40,7 +38,7 @@ abbrev pub takes_number : List Field → ℕ → Bool
 takes_number fields place =
     let name = name_at fields place in
     nat_lt most_named (length fields)
-    || (same_name name time_name || (has_mark name || (is_unfit name || is_among (take place fields) name)))
+    || (same_name name time_name || (is_unfit name || is_among (take place fields) name))
 
 -- a name with the number of its field, the first being 1; a name that is unfit is left out
 abbrev pub numbered : List ℕ → ℕ → List ℕ
@@ -54,4 +52,4 @@ column_name fields place =
 
 -- the names of the columns of a schema: that of the times, and one for each field
 abbrev pub column_names : List Field → List (List ℕ)
-column_names fields = time_name ∷ map (column_name fields) (iota (length fields))
+column_names fields = time_name ∷ map (column_name fields) (range_with_len 0 (length fields))

@@ -1,6 +1,6 @@
 -- The texts that create tables.
 use Rattle.std.specs.Prelude.{ℕ, List, ◌++◌, length, map, get_or, codes}
-use Rattle.std.specs.List.{flat_map, iota}
+use Rattle.std.specs.List.{flat_map, range_with_len}
 use Rattle.trace_values.specs.FieldTypes.{inner}
 use Rattle.trace_values.specs.declared.types.field_type.FieldType.{FieldType}
 use Rattle.trace_values.specs.declared.types.field_type.FieldType.TheVariants as types
@@ -34,4 +34,4 @@ column_text fields place =
 abbrev pub create_text : List ℕ → List Field → List ℕ
 create_text name fields =
     codes "CREATE TABLE " ++ quoted name ++ codes " (\n  " ++ quoted time_name ++ codes " UBIGINT"
-    ++ flat_map (column_text fields) (iota (length fields)) ++ codes "\n);\n"
+    ++ flat_map (column_text fields) (range_with_len 0 (length fields)) ++ codes "\n);\n"

@@ -2,7 +2,7 @@
 
 ghost use Rattle.std.specs.Prelude.{◌≡◌, ◌<◌, length, IfOk, OnOk, string_bytes};
 ghost use Rattle.csv.specs.Records.{fields_of};
-ghost use Rattle.trace_csv.specs.Columns.{is_unfit, has_mark, is_among, takes_number, column_name};
+ghost use Rattle.trace_csv.specs.Columns.{is_unfit, is_among, takes_number, column_name};
 ghost use Rattle.trace_csv.specs.Columns.{column_names};
 
 use csv::ByteRecord;
@@ -35,9 +35,9 @@ pub fn put_columns(
 }
 
 /// The name of the column of a field: the field's, and where that would not do, with `#` and the number of the field.
-/// It would not do where it is that of the times or of an earlier field, apart from the case of ASCII letters, where
-/// `#` stands in it, and where the schema has more than 1,000 fields. A name with a control character or a `"` is left
-/// out, and the number stands alone. `AllocError` where a growth was refused.
+/// It would not do where it is that of the times or of an earlier field, apart from the case of ASCII letters, and where
+/// the schema has more than 1,000 fields. A name with a control character, a `"` or a `#` is left out, and the number
+/// stands alone. `AllocError` where a growth was refused.
 pub fn column_name(alloc: Global, fields: &[FieldDef], place: usize) -> Result<String, AllocError>
     requires { place < length fields.now }
     ensures { IfOk result (λ name. string_bytes name ≡ column_name fields.now place) }
@@ -58,7 +58,7 @@ fn takes_number(fields: &[FieldDef], place: usize) -> bool
     let name = fields[place].name();
     fields.len() > MOST_NAMED
         || (name.eq_ignore_ascii_case(TIME)
-            || (has_mark(name) || (is_unfit(name) || is_among(&fields[..place], name))))
+            || (is_unfit(name) || is_among(&fields[..place], name)))
 }
 
 // Whether a name is that of one of these fields, apart from the case of letters.
@@ -70,19 +70,12 @@ fn is_among(fields: &[FieldDef], name: &str) -> bool
         .any(|field| field.name().eq_ignore_ascii_case(name))
 }
 
-// Whether the mark of numbers stands in a name.
-fn has_mark(name: &str) -> bool
-    ensures { result ≡ has_mark name.now }
-{
-    name.as_bytes().iter().any(|byte| *byte == b'#')
-}
-
-// Whether a control character or a quotation mark stands in a name.
+// Whether a character stands in a name that has no place in a column's.
 fn is_unfit(name: &str) -> bool
     ensures { result ≡ is_unfit name.now }
 {
     name
         .as_bytes()
         .iter()
-        .any(|byte| *byte < b' ' || *byte == b'"')
+        .any(|byte| *byte < b' ' || (*byte == b'"' || *byte == b'#'))
 }
