@@ -33,12 +33,10 @@ is_unfit name = list_any (λ b. nat_lt b 32 || (nat_eq b 34 || nat_eq b mark)) n
 abbrev pub name_at : List Field → ℕ → List ℕ
 name_at fields place = get_or (map (λ f. f.name) fields) place []
 
--- whether the name of a field takes the field's number
-abbrev pub takes_number : List Field → ℕ → Bool
-takes_number fields place =
-    let name = name_at fields place in
-    nat_lt most_named (length fields)
-    || (same_name name time_name || (is_unfit name || is_among (take place fields) name))
+-- whether a name takes the number of its field, by how many fields there are and those before it
+abbrev pub takes_number : ℕ → List Field → List ℕ → Bool
+takes_number count before name =
+    nat_lt most_named count || (same_name name time_name || (is_unfit name || is_among before name))
 
 -- a name with the number of its field, the first being 1; a name that is unfit is left out
 abbrev pub numbered : List ℕ → ℕ → List ℕ
@@ -48,7 +46,7 @@ numbered name place = (if is_unfit name then [] else name) ++ mark ∷ decimal (
 abbrev pub column_name : List Field → ℕ → List ℕ
 column_name fields place =
     let name = name_at fields place in
-    if takes_number fields place then numbered name place else name
+    if takes_number (length fields) (take place fields) name then numbered name place else name
 
 -- the names of the columns of a schema: that of the times, and one for each field
 abbrev pub column_names : List Field → List (List ℕ)

@@ -1,5 +1,5 @@
 -- The names of files and tables.
-use Rattle.std.specs.Prelude.{◌≡◌, ℕ, ◌||◌, Bool, true, List, [], ◌∷◌, ◌++◌, take, filter, nat_eq, IsTrue}
+use Rattle.std.specs.Prelude.{◌≡◌, ℕ, ◌||◌, Bool, true, List, [], ◌∷◌, ◌++◌, take, filter, nat_eq}
 use Rattle.std.specs.Char.{is_ascii_alphanumeric}
 use Rattle.std.specs.Fmt.{decimal}
 use Rattle.std.specs.List.{All}
@@ -16,7 +16,7 @@ is_kept b = is_ascii_alphanumeric b || (nat_eq b dash || nat_eq b underscore)
 
 -- a name with no other characters: no path, and no name that stands for a folder
 abbrev pub IsPlainName : List ℕ → Type 0
-IsPlainName text = All (λ b. IsTrue (is_kept b)) text
+IsPlainName text = All (λ b. is_kept b ≡ true) text
 
 -- what stays of the name of a schema
 abbrev pub kept_of : List ℕ → List ℕ

@@ -5,7 +5,7 @@ use Rattle.trace_values.specs.FieldTypes.{inner}
 use Rattle.trace_values.specs.declared.types.field_type.FieldType.{FieldType}
 use Rattle.trace_values.specs.declared.types.field_type.FieldType.TheVariants as types
 use Rattle.trace_wire.specs.Schemas.{Field}
-use Rattle.trace_csv.specs.Columns.{column_name, time_name}
+use Rattle.trace_csv.specs.Columns.{column_name}
 
 -- the type in SQL of a plain type
 abbrev pub plain_type_name : FieldType → List ℕ
@@ -21,17 +21,20 @@ plain_type_name t = codes "VARCHAR"
 abbrev pub type_name : FieldType → List ℕ
 type_name t = plain_type_name (inner t)
 
-abbrev pub quoted : List ℕ → List ℕ
-quoted name = codes "\"" ++ name ++ codes "\""
-
 -- the column of the field at a place
 abbrev pub column_text : List Field → ℕ → List ℕ
 column_text fields place =
-    codes ",\n  " ++ quoted (column_name fields place) ++ codes " "
+    codes ",\n  \"" ++ column_name fields place ++ codes "\" "
     ++ type_name (get_or (map (λ f. f.field_type) fields) place types.I64)
+
+-- how the text begins: with the column of the times
+abbrev pub table_head : List ℕ → List ℕ
+table_head name = codes "CREATE TABLE \"" ++ name ++ codes "\" (\n  \"timestamp_ns\" UBIGINT"
+
+abbrev pub table_end : List ℕ
+table_end = codes "\n);\n"
 
 -- the text that creates the table of a schema with these fields
 abbrev pub create_text : List ℕ → List Field → List ℕ
 create_text name fields =
-    codes "CREATE TABLE " ++ quoted name ++ codes " (\n  " ++ quoted time_name ++ codes " UBIGINT"
-    ++ flat_map (column_text fields) (range_with_len 0 (length fields)) ++ codes "\n);\n"
+    table_head name ++ flat_map (column_text fields) (range_with_len 0 (length fields)) ++ table_end

@@ -43,22 +43,19 @@ pub fn column_name(alloc: Global, fields: &[FieldDef], place: usize) -> Result<S
     ensures { IfOk result (λ name. string_bytes name ≡ column_name fields.now place) }
 {
     let name = fields[place].name();
-    if !takes_number(fields, place) {
+    if !takes_number(fields.len(), &fields[..place], name) {
         return String::from_str(alloc, name);
     }
     let kept = if is_unfit(name) { "" } else { name };
     format!(in alloc; "{kept}#{}", place + 1)
 }
 
-// Whether the name of a field takes the field's number.
-fn takes_number(fields: &[FieldDef], place: usize) -> bool
-    requires { place < length fields.now }
-    ensures { result ≡ takes_number fields.now place }
+// Whether a name takes the number of its field, by how many fields there are and those before it.
+fn takes_number(count: usize, before: &[FieldDef], name: &str) -> bool
+    ensures { result ≡ takes_number count before.now name.now }
 {
-    let name = fields[place].name();
-    fields.len() > MOST_NAMED
-        || (name.eq_ignore_ascii_case(TIME)
-            || (is_unfit(name) || is_among(&fields[..place], name)))
+    count > MOST_NAMED
+        || (name.eq_ignore_ascii_case(TIME) || (is_unfit(name) || is_among(before, name)))
 }
 
 // Whether a name is that of one of these fields, apart from the case of letters.

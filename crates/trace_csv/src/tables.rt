@@ -1,9 +1,9 @@
 //! The texts that create tables.
 
 ghost use Rattle.std.specs.Prelude.{◌≡◌, ◌++◌, ◌<◌, length, OnOk, string_bytes};
-ghost use Rattle.trace_csv.specs.Tables.{create_text, column_text, type_name};
+ghost use Rattle.trace_csv.specs.Tables.{create_text, column_text, type_name, table_head, table_end};
 
-use crate::columns::{TIME, column_name};
+use crate::columns::column_name;
 use std::alloc::{AllocError, Global};
 use trace_values::tri;
 use trace_values::types::FieldType;
@@ -20,10 +20,24 @@ pub fn push_table(
     ensures { OnOk result
         (string_bytes out.new ≡ string_bytes out.old ++ create_text name.now fields.now) }
 {
-    tri!(write!(out, "CREATE TABLE \"{name}\" (\n  \"{TIME}\" UBIGINT"));
+    tri!(push_head(out, name));
     'fields: for place in 0..fields.len() {
         tri!(push_column(alloc, out, fields, place));
     }
+    push_end(out)
+}
+
+// Appends how the text begins: with the column of the times.
+fn push_head(out: &mut String, name: &str) -> Result<(), AllocError>
+    ensures { OnOk result (string_bytes out.new ≡ string_bytes out.old ++ table_head name.now) }
+{
+    write!(out, "CREATE TABLE \"{name}\" (\n  \"timestamp_ns\" UBIGINT")
+}
+
+// Appends how the text ends.
+fn push_end(out: &mut String) -> Result<(), AllocError>
+    ensures { OnOk result (string_bytes out.new ≡ string_bytes out.old ++ table_end) }
+{
     out.push_str("\n);\n")
 }
 
