@@ -71,8 +71,7 @@ fn is_among(fields: &[FieldDef], name: &str) -> bool
 fn is_unfit(name: &str) -> bool
     ensures { result ≡ is_unfit name.now }
 {
-    name
-        .as_bytes()
+    name.as_bytes()
         .iter()
         .any(|byte| *byte < b' ' || (*byte == b'"' || *byte == b'#'))
 }

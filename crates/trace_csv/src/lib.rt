@@ -5,3 +5,5 @@ pub mod cells;
 pub mod columns;
 pub mod files;
 pub mod tables;
+#[cfg(test)]
+mod tests;
