@@ -11,6 +11,10 @@ line_feed = 10
 abbrev pub json_text : Json → List ℕ
 json_text j = print (json_tokens j)
 
+-- the text of JSON of which something is so
+abbrev pub IsTextOf : (Json → Type 0) → List ℕ → Type 0
+IsTextOf is text = (j : Json) × is j × (text ≡ json_text j)
+
 -- A line of JSON of which something is so: its text, which is UTF-8, and a line feed. The text is read back as that
 -- JSON, where this nests no deeper than readers go.
 pub record IsLineOf (is : Json → Type 0) (line : List ℕ) : Type 0 where

@@ -1,6 +1,6 @@
 //! Parts of values as JSON. Each function answers `AllocError` where a growth was refused.
 
-ghost use Rattle.std.specs.Prelude.{◌≡◌};
+ghost use Rattle.std.specs.Prelude.{◌≡◌, IfOk, string_bytes};
 ghost use Rattle.std.specs.FinMap as finmap;
 ghost use Rattle.std.specs.List.{flat_map};
 ghost use Rattle.json.specs.Json.{string};
@@ -42,14 +42,21 @@ fn put_special(alloc: Global, out: &mut Writer, bits: u64) -> Result<(), AllocEr
     ensures tokens { Puts (string (special_text bits)) out.old out.new result }
     ensures before { out.new.before ≡ out.old.before }
 {
+    let text = tri!(special_text(alloc, bits));
+    out.string(text.as_str())
+}
+
+/// The text of a float that is infinite or no number, by its bits. `AllocError` where a growth was refused.
+pub fn special_text(alloc: Global, bits: u64) -> Result<String, AllocError>
+    ensures { IfOk result (λ text. string_bytes text ≡ special_text bits) }
+{
     if bits == INFINITY {
-        return out.string("Infinity");
+        return format!(in alloc; "Infinity");
     }
     if bits == MINUS_INFINITY {
-        return out.string("-Infinity");
+        return format!(in alloc; "-Infinity");
     }
-    let text = tri!(format!(in alloc; "NaN:0x{bits:x}"));
-    out.string(text.as_str())
+    format!(in alloc; "NaN:0x{bits:x}")
 }
 
 /// Writes bytes: an object of their hexadecimal digits.

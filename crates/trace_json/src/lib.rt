@@ -3,9 +3,9 @@
 
 mod fields;
 pub mod laws;
-mod leaves;
+pub mod leaves;
 pub mod line;
 #[cfg(test)]
 mod tests;
 mod texts;
-mod value;
+pub mod value;

@@ -1,6 +1,6 @@
 //! Values as JSON (docs/FORMAT.md, "Lines of JSON"). Each function answers `AllocError` where a growth was refused.
 
-ghost use Rattle.std.specs.Prelude.{◌≡◌, map as list_map};
+ghost use Rattle.std.specs.Prelude.{◌≡◌, IfOk, map as list_map};
 ghost use Rattle.json.specs.Tree.{json_tokens};
 ghost use Rattle.trace_values.specs.Flat.{flat_form};
 ghost use Rattle.trace_values.specs.Reading.{values_to_items, values_to_pairs};
@@ -8,6 +8,7 @@ ghost use Rattle.trace_values.specs.Refs.{ref_view, ref_views, ref_pair_views};
 ghost use Rattle.trace_values.specs.Values.{list, map};
 ghost use Rattle.dial9_trace_format.specs.parts.Resolving.{as_pools};
 ghost use Rattle.trace_json.specs.EventJson.{IsValueJson, AreItemsJson, ArePairsJson};
+ghost use Rattle.trace_json.specs.Lines.{IsTextOf};
 ghost use Rattle.trace_json.specs.Put.{PutsOne};
 ghost use Rattle.trace_json.specs.parts.Put.{PutsAll};
 
@@ -18,6 +19,22 @@ use std::alloc::{AllocError, Global};
 use trace_values::tri;
 use trace_values::types::{FieldValueRef, items_of, pairs_of};
 use trace_wire::pools::{StackPool, StringPool};
+
+/// The text of a value, with what the pools hold in place of ids, with no space. `AllocError` where a growth was
+/// refused.
+pub fn value_text(
+    alloc: Global,
+    strings: &StringPool,
+    stacks: &StackPool,
+    value: &FieldValueRef<'_>,
+) -> Result<Vec<u8>, AllocError>
+    ensures { IfOk result (λ text. IsTextOf
+        (IsValueJson (as_pools strings.now stacks.now) (ref_view value.now)) text.items) }
+{
+    let mut writer = Writer::new(Vec::new(alloc));
+    tri!(put_value(alloc, &mut writer, strings, stacks, value));
+    Ok(writer.into_inner())
+}
 
 /// Writes a value, with what the pools hold in place of ids.
 #[cycle(value)]

@@ -1,0 +1,110 @@
+-- Cells that are appended to a row.
+use Rattle.std.proofs.Common.{◌≡◌, ℕ, Bool, true, false, List, [], ◌∷◌, ◌++◌, length, take, get_or, ◌+◌, ◌<◌, ◌≤◌, refl, sym, ap, subst}
+use Rattle.std.proofs.Common.{◌∙◌, rules, Result, Ok, Err, OnOk, map as list_map}
+use Rattle.std.specs.Prelude.{Option, Some, from_bits}
+use Rattle.std.specs.Bool.{MatchBool}
+use Rattle.std.specs.Borrow.{Bor}
+use Rattle.std.specs.FinMap as finmap
+use Rattle.std.specs.Float.{float_is_finite}
+use Rattle.std.specs.Float.Ieee.{Float, binary64}
+use Rattle.std.proofs.lemmas.List.{take_all}
+use Rattle.csv.specs.Records.{Row, fields_of, partial_of}
+use Rattle.json.specs.Json.{Json, number, string, null}
+use Rattle.trace_json.specs.EventJson.{IsFloatJson, IsNumeralOf, pooled_text_json, special_text}
+use Rattle.trace_json.proofs.OneMore.{seen_more}
+use Rattle.trace_values.specs.Refs.{ref_view}
+use Rattle.trace_values.specs.Values.{Value}
+use Rattle.trace_values.specs.Values as values
+use Rattle.trace_values.specs.declared.types.borrowed.FieldValueRef.{FieldValueRef, the_lemmas}
+use Rattle.trace_values.specs.declared.types.borrowed.FieldValueRef.TheVariants as refs
+use Rattle.trace_values.specs.declared.types.ids.InternedString.{InternedString}
+use Rattle.trace_wire.specs.Runs.{Pools}
+use Rattle.trace_csv.specs.Cells.{IsCellOf, AreCellsOf}
+use Rattle.trace_csv.specs.parts.Cells.{EndsIn, PushesCell}
+
+-- a cell was pushed onto a row that ended in no part of one
+pub cell_pushed :
+    {E : Type 0} (r : Result (Unit {0}) E) (is : List ℕ → Type 0) (old new : Row) (cell field : List ℕ) →
+    partial_of old ≡ [] → field ≡ cell → is cell →
+    OnOk r (fields_of new ≡ fields_of old ++ (partial_of old ++ field) ∷ []) → OnOk r (partial_of new ≡ []) →
+    PushesCell is old new r
+cell_pushed (Err e) is old new cell field whole same so put empty = empty
+cell_pushed (Ok u) is old new cell field whole same so put empty = record {
+  cell = cell;
+  is_so = so;
+  cells = put ∙ ap (λ (c : List ℕ). fields_of old ++ c ∷ []) (ap (λ (p : List ℕ). p ++ field) whole ∙ same);
+  whole = empty;
+}
+
+-- the cell of a value that stands for another
+seen_as :
+    (p : Pools) (v x : FieldValueRef) (w : Value) (cell : List ℕ) → v ≡ x → ref_view x ≡ w → IsCellOf p w cell →
+    IsCellOf p (ref_view v) cell
+seen_as p v x w cell is seen so = subst (λ (u : Value). IsCellOf p u cell) (sym (ap ref_view is ∙ seen)) so
+
+pub text_cell :
+    (p : Pools) (v : FieldValueRef) (b : Bor (List ℕ)) → v ≡ refs.String b → IsCellOf p (ref_view v) b.now
+text_cell p v b is =
+    seen_as p v (refs.String b) (values.text b.now) b.now is (search (rules, the_lemmas)) (string b.now, refl, refl)
+
+pub pooled_cell :
+    (p : Pools) (v : FieldValueRef) (id : InternedString) (s : List ℕ) → v ≡ refs.PooledString id →
+    finmap.get p.strings id.0 ≡ Some s → IsCellOf p (ref_view v) s
+pooled_cell p v id s is found =
+    seen_as p v (refs.PooledString id) (values.pooled_text id.0) s is (search (rules, the_lemmas))
+    (string s, sym (ap (pooled_text_json id.0) found), refl)
+
+pub absent_cell : (p : Pools) (v : FieldValueRef) → v ≡ refs.None → IsCellOf p (ref_view v) []
+absent_cell p v is =
+    seen_as p v refs.None values.absent [] is (search (rules, the_lemmas)) (null, refl, refl)
+
+by_test : (b c : Bool) (P Q : Type 0) → b ≡ c → MatchBool c P Q → MatchBool b P Q
+by_test b c P Q same h = subst (λ (x : Bool). MatchBool x P Q) (sym same) h
+
+-- the cell of a float that is infinite or no number
+pub special_cell :
+    (p : Pools) (v : FieldValueRef) (n : ℕ) (x : Float) (b : Bool) → v ≡ refs.F64 n → x ≡ from_bits binary64 n →
+    b ≡ float_is_finite x → b ≡ false → IsCellOf p (ref_view v) (special_text n)
+special_cell p v n x b is bits test other =
+    let special : IsFloatJson n (string (special_text n)) =
+    by_test (float_is_finite (from_bits binary64 n)) false
+    ((t : List ℕ) × IsNumeralOf n t × (string (special_text n) ≡ number t))
+    (string (special_text n) ≡ string (special_text n)) (ap float_is_finite (sym bits) ∙ sym test ∙ other) refl in
+    seen_as p v (refs.F64 n) (values.float n) (special_text n) is (search (rules, the_lemmas))
+    (string (special_text n), special, refl)
+
+-- ---- the cells of an event
+
+-- a row of a time and the cells of values
+pub record HasCells (p : Pools) (time : List ℕ) (vs : List Value) (row : Row) : Type 0 where
+  pub cells : List (List ℕ)
+  pub are : AreCellsOf p vs cells
+  pub row_is : fields_of row ≡ time ∷ cells
+  pub whole : partial_of row ≡ []
+
+cells_more :
+    (p : Pools) (vs : List Value) (v : Value) (cs : List (List ℕ)) (c : List ℕ) → AreCellsOf p vs cs →
+    IsCellOf p v c → AreCellsOf p (vs ++ v ∷ []) (cs ++ c ∷ [])
+cells_more p [] v cs c none is = (c, [], ap (λ (l : List (List ℕ)). l ++ c ∷ []) none, is, refl)
+cells_more p (u ∷ us) v cs c all is =
+    (all.0, all.1 ++ c ∷ [], ap (λ (l : List (List ℕ)). l ++ c ∷ []) all.2, all.3, cells_more p us v all.1 c all.4 is)
+
+-- the cells so far, and the next one
+pub next_cell :
+    {A : Type 0} (p : Pools) (time : List ℕ) (seen : A → Value) (xs : List A) (i : ℕ) {x : A} (old new : Row) →
+    i < length xs → x ≡ get_or xs i x → HasCells p time (list_map seen (take i xs)) old →
+    EndsIn (IsCellOf p (seen x)) old new → HasCells p time (list_map seen (take (i + 1) xs)) new
+next_cell p time seen xs i {x} old new lt is h e = record {
+  cells = h.cells ++ e.cell ∷ [];
+  are = subst (λ (vs : List Value). AreCellsOf p vs (h.cells ++ e.cell ∷ [])) (sym (seen_more seen xs i x lt is))
+      (cells_more p (list_map seen (take i xs)) (seen x) h.cells e.cell h.are e.is_so);
+  row_is = e.cells ∙ ap (λ (l : List (List ℕ)). l ++ e.cell ∷ []) h.row_is;
+  whole = e.whole;
+}
+
+-- all of them
+pub all_cells :
+    {A : Type 0} (p : Pools) (time : List ℕ) (seen : A → Value) (xs : List A) (i : ℕ) (row : Row) → length xs ≤ i →
+    HasCells p time (list_map seen (take i xs)) row → HasCells p time (list_map seen xs) row
+all_cells {A} p time seen xs i row le h =
+    subst (λ (l : List A). HasCells p time (list_map seen l) row) (take_all i xs le) h

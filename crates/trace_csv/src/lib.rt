@@ -1,0 +1,9 @@
+//! Events of a trace as rows of tables, one table a schema (docs/TOOLS.md, "Tables").
+#![tactic(auto)]
+
+pub mod cells;
+pub mod columns;
+pub mod files;
+pub mod tables;
+#[cfg(test)]
+mod tests;
