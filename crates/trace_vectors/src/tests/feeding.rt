@@ -1,9 +1,11 @@
 //! A trace that is fed in pieces.
 
-use crate::tests::calls::{all, decoder_of};
-use crate::tests::traces::{CONFLICT, ONE_EVENT, THREE_EVENTS};
+use crate::tests::calls::{all, decoder_of, next};
+use crate::tests::traces::{CONFLICT, HEADER, ONE_EVENT, THREE_EVENTS};
 use dial9_trace_format::codec::WireTypeId;
-use dial9_trace_format::decoder::{DecodeError, DecodeErrorKind, DecodedFrame, FeedDecoder};
+use dial9_trace_format::decoder::{
+    DecodeError, DecodeErrorKind, DecodedFrame, Decoder, FeedDecoder,
+};
 use std::alloc::Global;
 use std::test::Fail;
 
@@ -115,6 +117,88 @@ fn two_traces_cut_anywhere(rt: HostRuntime) -> Result<(), Fail> {
     let bytes = twice(rt.alloc())?;
     for cut in 0..bytes.len() {
         assert!(rt; gives_cut(rt.alloc(), bytes.as_slice(), cut, 4)?);
+    }
+    Ok(())
+}
+
+/// The trace of one event three times, and a header.
+fn three_and_a_header(alloc: Global) -> Result<Vec<u8>, Fail> {
+    let mut bytes = Vec::new(alloc);
+    for _ in 0..3 {
+        bytes.extend_from_slice(&ONE_EVENT)?;
+    }
+    bytes.extend_from_slice(&HEADER)?;
+    Ok(bytes)
+}
+
+/// How many headers are whole in so many first bytes of these: each trace has 26.
+fn headers_in(read: usize) -> u64 {
+    let mut count: u64 = 0;
+    for end in [5, 31, 57, 83] {
+        if read >= end {
+            count = count.saturating_add(1);
+        }
+    }
+    count
+}
+
+/// The next frame, if any, stands after so many headers.
+fn stands_after(decoder: &mut Decoder<'_>, frame: bool, headers: u64) -> Result<bool, Fail> {
+    Ok(next(decoder)?.is_some() == frame && decoder.headers() == headers)
+}
+
+#[test]
+fn headers_are_counted(rt: HostRuntime) -> Result<(), Fail> {
+    let bytes = three_and_a_header(rt.alloc())?;
+    let mut decoder = decoder_of(rt.alloc(), bytes.as_slice())?;
+    assert!(rt; decoder.headers() == 1);
+    for headers in [1, 1, 2, 2, 3, 3] {
+        assert!(rt; stands_after(&mut decoder, true, headers)?);
+    }
+    assert!(rt; stands_after(&mut decoder, false, 4)?);
+    assert!(rt; stands_after(&mut decoder, false, 4)?);
+    Ok(())
+}
+
+/// Fed in pieces of a length, the decoder tells after each the headers that are whole in what it was fed.
+fn counts_headers(alloc: Global, bytes: &[u8], length: usize) -> Result<bool, Fail> {
+    let mut feed = FeedDecoder::new(alloc);
+    if feed.headers() != 0 {
+        return Ok(false);
+    }
+    for piece in bytes.chunks(length.max(1)) {
+        let _frames = feed.feed(piece)?;
+        if feed.headers() != headers_in(feed.fed_len()) {
+            return Ok(false);
+        }
+    }
+    Ok(true)
+}
+
+/// Pushed in pieces of a length and pulled frame by frame, the decoder tells the headers before its place.
+fn pulls_headers(alloc: Global, bytes: &[u8], length: usize) -> Result<bool, Fail> {
+    let mut feed = FeedDecoder::new(alloc);
+    for piece in bytes.chunks(length.max(1)) {
+        feed.push(piece)?;
+        for _ in 0..bytes.len() {
+            let frame = feed.next_frame()?;
+            if feed.headers() != headers_in(feed.position()) {
+                return Ok(false);
+            }
+            if frame.is_none() {
+                break;
+            }
+        }
+    }
+    Ok(feed.headers() == 4)
+}
+
+#[test]
+fn headers_are_counted_in_pieces(rt: HostRuntime) -> Result<(), Fail> {
+    let bytes = three_and_a_header(rt.alloc())?;
+    for length in [1, 2, 3, 5, 26, 30, 31, 52, 83] {
+        assert!(rt; counts_headers(rt.alloc(), bytes.as_slice(), length)?);
+        assert!(rt; pulls_headers(rt.alloc(), bytes.as_slice(), length)?);
     }
     Ok(())
 }
