@@ -1,0 +1,3 @@
+pub mod RecordsRead
+pub mod BatchesRead
+pub mod Accepted

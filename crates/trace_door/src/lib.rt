@@ -1,0 +1,9 @@
+//! The calls of the library for C, and for languages that call C (docs/DOORS.md): over slices and flat structs, with
+//! nothing kept between two calls.
+#![tactic(auto)]
+
+mod checking;
+mod codes;
+mod dumping;
+mod filling;
+mod recording;

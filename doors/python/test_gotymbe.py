@@ -1,0 +1,210 @@
+"""The Python door: events of every type, refusals, and all recorded traces (docs/RECORDINGS.md), read and written again.
+
+Run it at the top of the repository by doors/test."""
+import glob
+import importlib.machinery
+import importlib.util
+import os
+import struct
+import unittest
+
+import gotymbe
+from gotymbe import (BOOL, BYTES, F64, I64, LIST, MAP, POOLED_STACK, POOLED_STRING, STACK, STRING, STRING_MAP, U8, U16,
+                     U32, VARINT, Batch, Schema, TraceError, check, dump, dump_with_status, optional, record,
+                     record_batch)
+
+TOP = os.path.join(os.path.dirname(os.path.abspath(__file__)), "..", "..")
+
+
+def loaded(path, name):
+    """A script as a module."""
+    loader = importlib.machinery.SourceFileLoader(name, path)
+    spec = importlib.util.spec_from_loader(name, loader)
+    module = importlib.util.module_from_spec(spec)
+    loader.exec_module(module)
+    return module
+
+
+reader = loaded(os.path.join(TOP, "tools", "second_reader"), "second_reader")
+
+# each type with a value and how a resolved dump shows it (docs/FORMAT.md, "Dumps")
+KINDS = [
+    (I64, -3, "I64:-3"), (F64, 1.5, "F64:0x3ff8000000000000"), (BOOL, True, "Bool:true"),
+    (STRING, "a\"b", 'String:"a\\x22b"'), (BYTES, b"\0\xff", 'Bytes:"\\x00\\xFF"'),
+    (POOLED_STACK, (16, 255), "StackFrames:[0x10,0xff]"), (POOLED_STRING, "GET /", 'String:"GET /"'),
+    (STACK, (1,), "StackFrames:[0x1]"), (VARINT, 2**64 - 1, "Varint:18446744073709551615"),
+    (STRING_MAP, {"k": "v"}, 'StringMap:{"k"="v"}'), (U8, 255, "Varint:255"), (U16, 65535, "Varint:65535"),
+    (U32, 2**32 - 1, "Varint:4294967295"), (LIST, [(VARINT, 1), (STRING, "x")], 'List:[Varint:1,String:"x"]'),
+    (MAP, [((BOOL, False), (LIST, []))], "Map:{Bool:false=List:[]}"),
+]
+
+
+class Copied(reader.Trace):
+    """A trace whose events are put into batches, a batch for each header: the bytes of each field after the tag of its type."""
+
+    def __init__(self, data):
+        self.batches = []
+        super().__init__(data, "dump")
+
+    def forget(self):
+        super().forget()
+        self.numbers = {}
+        self.batches.append(bytearray())
+
+    def frame(self):
+        begin, strings, stacks = self.at, dict(self.strings), dict(self.stacks)
+        super().frame()
+        if self.data[begin] == 3:
+            at, self.at = self.at, begin + 1
+            for _ in range(self.number(4)):
+                self.batches[-1] += b"\x03" + self.take(4) + gotymbe._counted(self.sized(4))
+            self.at = at
+        if self.data[begin] == 4:
+            at, self.at = self.at, begin + 1
+            for _ in range(self.number(4)):
+                self.batches[-1] += b"\x04" + self.take(4)
+                count = self.take(4)
+                self.batches[-1] += count + self.take(8 * int.from_bytes(count, "little"))
+            self.at = at
+
+    def event(self):
+        wire_id = self.number(2)
+        if wire_id not in self.types:
+            raise reader.NoFrame
+        name, fields, timed = self.types[wire_id]
+        time = self.base + (self.number(3) if timed else 0)
+        tags = {kind: tag for tag, kind in reader.TYPES.items()}
+        values = b""
+        for _, kind in fields:
+            begin = self.at
+            self.field(kind)
+            values += bytes([tags[kind]]) + self.data[begin:self.at]
+        if time >= 2**64:
+            raise reader.NoFrame
+        self.base = time
+        if self.numbers.get(wire_id) != (name, fields):
+            self.numbers[wire_id] = name, fields
+            schema = Schema(name.decode(), [(field.decode(), tags[kind]) for field, kind in fields])
+            self.batches[-1] += schema.record(wire_id)
+        self.batches[-1] += b"\x02" + struct.pack("<HQH", wire_id, time, len(fields)) + values
+
+
+class Doors(unittest.TestCase):
+    def test_each_type(self):
+        kinds = KINDS + [(optional(kind), value, line) for kind, value, line in KINDS]
+        kinds += [(optional(kind), None, "None") for kind, _, _ in KINDS]
+        schema = Schema("All", [(f"f{at}", kind) for at, (kind, _, _) in enumerate(kinds)], [(0, "unit", "ns")])
+        trace = record([(schema, 5, [value for _, value, _ in kinds])])
+        self.assertEqual(check(trace), len(trace))
+        [event] = gotymbe.read(trace)
+        read_back = {STRING_MAP: [(b"k", b"v")], LIST: [1, "x"], MAP: [(False, [])]}
+        self.assertEqual((event.name, event.time), ("All", 5))
+        self.assertEqual(list(event.values.values()),
+                         [None if value is None else read_back.get(kind & 0x7F, value) for kind, value, _ in kinds])
+        shown = " ".join(f'"f{at}"={line}' for at, (_, _, line) in enumerate(kinds))
+        self.assertEqual(dump(trace, True), f'trace version 1\nevent "All" timestamp_ns=5 {shown}\nend whole\n')
+
+    def test_times_and_joined_traces(self):
+        tick = Schema("Tick", [])
+        times = [0, 2**24 - 1, 2**24, 3, 2**64 - 1, 0]
+        traces = record([(tick, time, []) for time in times]) + record([(tick, 7, [])])
+        wanted = "".join(f'event "Tick" timestamp_ns={time}\n' for time in [*times, 7])
+        self.assertEqual(dump(traces, True), f"trace version 1\n{wanted}end whole\n")
+
+    def test_refusals(self):
+        schema = Schema("A", [("a", U8)])
+
+        def refused(batch):
+            with self.assertRaises(TraceError) as it:
+                record_batch(batch)
+            return it.exception.code, it.exception.place, it.exception.detail
+
+        defined = schema.record(1)
+        event = b"\x02\x01\0" + bytes(8)
+        self.assertEqual(refused(b"\x09"), (16, 0, 0))
+        self.assertEqual(refused(defined + defined[:-1]), (16, 1, 0))
+        self.assertEqual(refused(event + b"\x01\0\x09\x01"), (17, 0, 0))
+        self.assertEqual(refused(defined + event + b"\0\0"), (33, 1, 0))
+        self.assertEqual(refused(defined + event + b"\x01\0\x0c\0\x01"), (34, 1, 0))
+        self.assertEqual(refused(defined + Schema("A", []).record(2)), (32, 1, 0))
+        with self.assertRaises(TraceError) as it:
+            list(gotymbe.read(record([(schema, 1, [1])])[:-1]))
+        self.assertLess(it.exception.length, it.exception.place + 1)
+
+    def test_ample(self):
+        """Each size of what takes memory, with ample memory: no call wants more."""
+        sizes = (0, 1, 255, 256, 4097, 65536)
+        sized = [(STRING, lambda n: "x" * n), (BYTES, bytes), (STACK, range), (POOLED_STRING, lambda n: "y" * n),
+                 (POOLED_STACK, lambda n: tuple(range(n))), (STRING_MAP, lambda n: [(b"", b"")] * n),
+                 (LIST, lambda n: [(BOOL, True)] * n), (MAP, lambda n: [((U8, 1), (U8, 2))] * n)]
+        for kind, made in sized:
+            schema = Schema("S", [("v", kind)])
+            for size in sizes:
+                trace = record([(schema, 1, [made(size)])])
+                self.assertEqual(check(trace), len(trace))
+                [event] = gotymbe.read(trace)
+                self.assertEqual(len(event.values["v"]), size)
+        for count in (0, 1, 255, 256, 4097, 65535):
+            schema = Schema("C", [(f"f{at}", BOOL) for at in range(count)], [(0, "k", "v")] * count)
+            trace = record([(schema, 1, [True] * count)])
+            [event] = gotymbe.read(trace)
+            self.assertEqual(len(event.values), count)
+        tick = Schema("Tick", [("n", VARINT)])
+        for count in (0, 1, 256, 65536, 1000001):
+            batch = tick.record(0) + b"".join(
+                b"\x02\0\0" + struct.pack("<QHB", at, 1, VARINT) + gotymbe._leb128(at) for at in range(count))
+            trace = record_batch(batch)
+            self.assertEqual(check(trace), len(trace))
+            self.assertEqual(dump(trace).count("\nevent "), count)
+
+    def test_recorded_traces(self):
+        seen = 0
+        for path in sorted(glob.glob(os.path.join(TOP, "crates/trace_replay/data/*.txt"))):
+            for name, parts in reader.recordings(path):
+                data = bytes.fromhex(parts["bytes"][0])
+                for resolve, part in ((False, "dump"), (True, "resolve")):
+                    if part in parts:
+                        lines, status = dump_with_status(data, resolve)
+                        self.assertEqual(lines.decode().split("\n"), [*parts[part], ""], (path, name, part))
+                        end = parts[part][-1].split()
+                        if resolve and status == 0:
+                            self.assertEqual(len(list(gotymbe.read(data))), lines.count(b"\nevent "), (path, name))
+                        self.assertEqual(status, {"header": 1, "whole": 0, "stopped": 2, "conflict": 3}[end[1]])
+                        seen += 1
+                end = parts["dump"][-1].split() if "dump" in parts else []
+                if end[:2] == ["end", "whole"]:
+                    self.assertEqual(check(data), len(data), (path, name))
+                elif end:
+                    with self.assertRaises(TraceError) as it:
+                        check(data)
+                    if end[1] == "stopped":
+                        self.assertEqual(it.exception.length, int(end[3]), (path, name))
+                    else:
+                        self.assertEqual(it.exception.code, 57 if end[1] == "conflict" else 58, (path, name))
+        self.assertGreater(seen, 1000)
+
+    def test_recorded_events_again(self):
+        written = refused = 0
+        for path in sorted(glob.glob(os.path.join(TOP, "crates/trace_replay/data/*.txt"))):
+            for name, parts in reader.recordings(path):
+                if parts.get("resolve", [""])[-1] != "end whole":
+                    continue
+                copied = Copied(bytes.fromhex(parts["bytes"][0]))
+                while copied.at < len(copied.data) and copied.conflict is None:
+                    copied.frame()
+                try:
+                    trace = b"".join(record_batch(bytes(batch)) for batch in copied.batches[1:])
+                except TraceError as error:
+                    # two schemas of one name
+                    self.assertEqual(error.code, 32, (path, name))
+                    refused += 1
+                    continue
+                lines = dump(trace, True).split("\n")
+                self.assertEqual(lines[1:], [*parts["resolve"][1:], ""], (path, name))
+                written += 1
+        self.assertGreater(written, 400)
+        self.assertLess(refused, written // 10)
+
+
+if __name__ == "__main__":
+    unittest.main()
