@@ -22,18 +22,21 @@ use Rattle.trace_wire.specs.Runs.{Pools}
 use Rattle.trace_csv.specs.Cells.{IsCellOf, AreCellsOf}
 use Rattle.trace_csv.specs.parts.Cells.{EndsIn, PushesCell}
 
+-- what a push of a field tells
+pub record Pushed {E : Type 0} (r : Result (Unit {0}) E) (old new : Row) (field : List ℕ) : Type 0 where
+  pub fields : OnOk r (fields_of new ≡ fields_of old ++ (partial_of old ++ field) ∷ [])
+  pub partial : OnOk r (partial_of new ≡ [])
+
 -- a cell was pushed onto a row that ended in no part of one
 pub cell_pushed :
-    {E : Type 0} (r : Result (Unit {0}) E) (is : List ℕ → Type 0) (old new : Row) (cell field : List ℕ) →
-    partial_of old ≡ [] → field ≡ cell → is cell →
-    OnOk r (fields_of new ≡ fields_of old ++ (partial_of old ++ field) ∷ []) → OnOk r (partial_of new ≡ []) →
-    PushesCell is old new r
-cell_pushed (Err e) is old new cell field whole same so put empty = empty
-cell_pushed (Ok u) is old new cell field whole same so put empty = record {
+    {E : Type 0} (r : Result (Unit {0}) E) (is : List ℕ → Type 0) {old new : Row} (cell : List ℕ) {field : List ℕ} →
+    Pushed r old new field → partial_of old ≡ [] → field ≡ cell → is cell → PushesCell is old new r
+cell_pushed (Err e) is cell p whole same so = p.partial
+cell_pushed (Ok u) is {old} cell {field} p whole same so = record {
   cell = cell;
   is_so = so;
-  cells = put ∙ ap (λ (c : List ℕ). fields_of old ++ c ∷ []) (ap (λ (p : List ℕ). p ++ field) whole ∙ same);
-  whole = empty;
+  cells = p.fields ∙ ap (λ (c : List ℕ). fields_of old ++ c ∷ []) (ap (λ (f : List ℕ). f ++ field) whole ∙ same);
+  whole = p.partial;
 }
 
 -- the cell of a value that stands for another
@@ -42,11 +45,13 @@ seen_as :
     IsCellOf p (ref_view v) cell
 seen_as p v x w cell is seen so = subst (λ (u : Value). IsCellOf p u cell) (sym (ap ref_view is ∙ seen)) so
 
+-- the cell of a text
 pub text_cell :
     (p : Pools) (v : FieldValueRef) (b : Bor (List ℕ)) → v ≡ refs.String b → IsCellOf p (ref_view v) b.now
 text_cell p v b is =
     seen_as p v (refs.String b) (values.text b.now) b.now is (search (rules, the_lemmas)) (string b.now, refl, refl)
 
+-- the cell of a text in the pool
 pub pooled_cell :
     (p : Pools) (v : FieldValueRef) (id : InternedString) (s : List ℕ) → v ≡ refs.PooledString id →
     finmap.get p.strings id.0 ≡ Some s → IsCellOf p (ref_view v) s
@@ -54,6 +59,7 @@ pooled_cell p v id s is found =
     seen_as p v (refs.PooledString id) (values.pooled_text id.0) s is (search (rules, the_lemmas))
     (string s, sym (ap (pooled_text_json id.0) found), refl)
 
+-- the cell of an absent value
 pub absent_cell : (p : Pools) (v : FieldValueRef) → v ≡ refs.None → IsCellOf p (ref_view v) []
 absent_cell p v is =
     seen_as p v refs.None values.absent [] is (search (rules, the_lemmas)) (null, refl, refl)
@@ -91,10 +97,10 @@ cells_more p (u ∷ us) v cs c all is =
 
 -- the cells so far, and the next one
 pub next_cell :
-    {A : Type 0} (p : Pools) (time : List ℕ) (seen : A → Value) (xs : List A) (i : ℕ) {x : A} (old new : Row) →
+    {A : Type 0} (p : Pools) (time : List ℕ) (seen : A → Value) (xs : List A) (i : ℕ) {x : A} {old new : Row} →
     i < length xs → x ≡ get_or xs i x → HasCells p time (list_map seen (take i xs)) old →
     EndsIn (IsCellOf p (seen x)) old new → HasCells p time (list_map seen (take (i + 1) xs)) new
-next_cell p time seen xs i {x} old new lt is h e = record {
+next_cell p time seen xs i {x} lt is h e = record {
   cells = h.cells ++ e.cell ∷ [];
   are = subst (λ (vs : List Value). AreCellsOf p vs (h.cells ++ e.cell ∷ [])) (sym (seen_more seen xs i x lt is))
       (cells_more p (list_map seen (take i xs)) (seen x) h.cells e.cell h.are e.is_so);

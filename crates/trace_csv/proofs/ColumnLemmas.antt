@@ -7,10 +7,10 @@ use Rattle.std.specs.List.{flat_map, range_with_len}
 
 -- one name more
 pub one_name_more :
-    (name : ℕ → List ℕ) (first : List ℕ) (n : ℕ) (old new : List (List ℕ)) (part text : List ℕ) →
+    (name : ℕ → List ℕ) (first : List ℕ) (n : ℕ) (old new : List (List ℕ)) {part text : List ℕ} →
     old ≡ first ∷ map name (range_with_len 0 n) → part ≡ [] → text ≡ name n → new ≡ old ++ (part ++ text) ∷ [] →
     new ≡ first ∷ map name (range_with_len 0 (n + 1))
-one_name_more name first n old new part text so whole is put =
+one_name_more name first n old new {part} {text} so whole is put =
     put ∙ ap (λ (l : List (List ℕ)). l ++ (part ++ text) ∷ []) so
     ∙ ap (λ (t : List ℕ). first ∷ (map name (range_with_len 0 n) ++ t ∷ [])) (ap (λ (p : List ℕ). p ++ text) whole ∙ is)
     ∙ ap (λ (l : List (List ℕ)). first ∷ l) (sym (map-range_with_len_more name 0 n n (omega arith)))
@@ -38,10 +38,10 @@ one_column_more column start n old new so put =
 
 -- the text of a table, once its end was appended
 pub table_ended :
-    {E : Type 0} (r : Result (Unit {0}) E) (start head middle held columns end ended : List ℕ) →
+    {E : Type 0} (r : Result (Unit {0}) E) (start head : List ℕ) {middle held : List ℕ} (columns end ended : List ℕ) →
     middle ≡ start ++ head → held ≡ middle ++ columns → OnOk r (ended ≡ held ++ end) →
     OnOk r (ended ≡ start ++ ((head ++ columns) ++ end))
-table_ended (Err e) start head middle held columns end ended begun all put = put
-table_ended (Ok u) start head middle held columns end ended begun all put =
+table_ended (Err e) start head columns end ended begun all put = put
+table_ended (Ok u) start head columns end ended begun all put =
     put ∙ ap (λ (l : List ℕ). l ++ end) (all ∙ ap (λ (l : List ℕ). l ++ columns) begun
     ∙ append_assoc start head columns) ∙ append_assoc start (head ++ columns) end

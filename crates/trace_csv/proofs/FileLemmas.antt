@@ -23,11 +23,10 @@ one_left : (b : ℕ) → is_kept b ≡ false → filter is_kept (b ∷ []) ≡ [
 one_left b is = search is
 
 front_more :
-    (name : List ℕ) (i b : ℕ) → i < length name → b ≡ get_or name i 0 →
-    kept_front name (i + 1) ≡ kept_front name i ++ filter is_kept (b ∷ [])
-front_more name i b lt is =
-    ap (filter is_kept) (take_more name i 0 lt ∙ ap (λ (y : ℕ). take i name ++ y ∷ []) (sym is))
-    ∙ filter-append is_kept (take i name) (b ∷ [])
+    (name : List ℕ) (i : ℕ) → i < length name →
+    kept_front name (i + 1) ≡ kept_front name i ++ filter is_kept (get_or name i 0 ∷ [])
+front_more name i lt =
+    ap (filter is_kept) (take_more name i 0 lt) ∙ filter-append is_kept (take i name) (get_or name i 0 ∷ [])
 
 -- the loop's state: the text, and how many may still be kept
 pub record HasKept (head name : List ℕ) (i left : ℕ) (text : List ℕ) : Type 0 where
@@ -36,13 +35,14 @@ pub record HasKept (head name : List ℕ) (i left : ℕ) (text : List ℕ) : Typ
 
 -- one more was kept
 pub kept_on :
-    (head name : List ℕ) (i b left less : ℕ) (old new : List ℕ) → i < length name → b ≡ get_or name i 0 →
-    is_kept b ≡ true → 0 < left → HasKept head name i left old → new ≡ old ++ b ∷ [] → less ≡ left - 1 →
-    HasKept head name (i + 1) less new
-kept_on head name i b left less old new lt at is some h put fewer =
+    {head name : List ℕ} {i left : ℕ} {old : List ℕ} (less : ℕ) (new : List ℕ) → HasKept head name i left old →
+    i < length name → is_kept (get_or name i 0) ≡ true → 0 < left → new ≡ old ++ get_or name i 0 ∷ [] →
+    less ≡ left - 1 → HasKept head name (i + 1) less new
+kept_on {head} {name} {i} {left} less new h lt is some put fewer =
+    let b = get_or name i 0 in
     let front = kept_front name i in
     let more : kept_front name (i + 1) ≡ front ++ b ∷ [] =
-    front_more name i b lt at ∙ ap (λ (l : List ℕ). front ++ l) (one_kept b is) in
+    front_more name i lt ∙ ap (λ (l : List ℕ). front ++ l) (one_kept b is) in
     let room : length front < 64 = omega (arith, h.left_is, some) in
     let long : length (front ++ b ∷ []) ≡ length front + 1 = length-append front (b ∷ []) in
     let count : length (kept_front name (i + 1)) ≡ length front + 1 = ap (λ (l : List ℕ). length l) more ∙ long in
@@ -56,12 +56,13 @@ kept_on head name i b left less old new lt at is some h put fewer =
 
 -- one more was not, since it is none that stays
 pub other_left :
-    (head name : List ℕ) (i b left : ℕ) (text : List ℕ) → i < length name → b ≡ get_or name i 0 →
-    is_kept b ≡ false → HasKept head name i left text → HasKept head name (i + 1) left text
-other_left head name i b left text lt at is h =
+    {head name : List ℕ} {i left : ℕ} {text : List ℕ} → HasKept head name i left text → i < length name →
+    is_kept (get_or name i 0) ≡ false → HasKept head name (i + 1) left text
+other_left {head} {name} {i} h lt is =
+    let b = get_or name i 0 in
     let front = kept_front name i in
     let more : kept_front name (i + 1) ≡ front =
-    front_more name i b lt at ∙ ap (λ (l : List ℕ). front ++ l) (one_left b is) ∙ append-nil front in
+    front_more name i lt ∙ ap (λ (l : List ℕ). front ++ l) (one_left b is) ∙ append-nil front in
     record {
       is = h.is ∙ ap (λ (l : List ℕ). head ++ take 64 l) (sym more);
       left_is = h.left_is ∙ ap (λ (l : List ℕ). 64 - length l) (sym more);
@@ -69,12 +70,13 @@ other_left head name i b left text lt at is h =
 
 -- one more was not, since as many stay as may
 pub full_left :
-    (head name : List ℕ) (i b left : ℕ) (text : List ℕ) → i < length name → b ≡ get_or name i 0 → left ≡ 0 →
-    HasKept head name i left text → HasKept head name (i + 1) left text
-full_left head name i b left text lt at none h =
+    {head name : List ℕ} {i left : ℕ} {text : List ℕ} → HasKept head name i left text → i < length name → left ≡ 0 →
+    HasKept head name (i + 1) left text
+full_left {head} {name} {i} h lt none =
+    let b = get_or name i 0 in
     let front = kept_front name i in
     let next = filter is_kept (b ∷ []) in
-    let more : kept_front name (i + 1) ≡ front ++ next = front_more name i b lt at in
+    let more : kept_front name (i + 1) ≡ front ++ next = front_more name i lt in
     let full : 64 ≤ length front = omega (arith, h.left_is, none) in
     let long : length (kept_front name (i + 1)) ≡ length front + length next =
     ap (λ (l : List ℕ). length l) more ∙ length-append front next in

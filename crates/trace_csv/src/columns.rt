@@ -35,9 +35,9 @@ pub fn put_columns(
 }
 
 /// The name of the column of a field: the field's, and where that would not do, with `#` and the number of the field.
-/// It would not do where it is that of the times or of an earlier field, apart from the case of ASCII letters, and where
-/// the schema has more than 1,000 fields. A name with a control character, a `"` or a `#` is left out, and the number
-/// stands alone. `AllocError` where a growth was refused.
+/// It would not do where it is that of the times or of an earlier field, apart from the case of ASCII letters, and
+/// where the schema has more than 1,000 fields. A name with a control character, a `"` or a `#` is left out, and the
+/// number stands alone. `AllocError` where a growth was refused.
 pub fn column_name(alloc: Global, fields: &[FieldDef], place: usize) -> Result<String, AllocError>
     requires { place < length fields.now }
     ensures { IfOk result (λ name. string_bytes name ≡ column_name fields.now place) }

@@ -1,4 +1,4 @@
-//! Events of a trace as rows of tables, one table a schema (docs/TOOLS.md, "Tables").
+//! Events of a trace as rows of tables, one table a schema (docs/FORMAT.md, "Tables").
 #![tactic(auto)]
 
 pub mod cells;

@@ -61,6 +61,7 @@ fields_more p names (u ∷ us) v ms name j here all is = (
 
 -- ---- as loops go over them
 
+-- what is seen of one item more
 pub seen_more :
     {A B : Type 0} (seen : A → B) (xs : List A) (i : ℕ) (x : A) → i < length xs → x ≡ get_or xs i x →
     list_map seen (take (i + 1) xs) ≡ list_map seen (take i xs) ++ seen x ∷ []

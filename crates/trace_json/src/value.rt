@@ -29,7 +29,8 @@ pub fn value_text(
     value: &FieldValueRef<'_>,
 ) -> Result<Vec<u8>, AllocError>
     ensures { IfOk result (λ text. IsTextOf
-        (IsValueJson (as_pools strings.now stacks.now) (ref_view value.now)) text.items) }
+        (IsValueJson record { strings = strings.now; stacks = stacks.now } (ref_view value.now))
+        text.items) }
 {
     let mut writer = Writer::new(Vec::new(alloc));
     tri!(put_value(alloc, &mut writer, strings, stacks, value));

@@ -15,4 +15,4 @@ pub fields-preserved : goal.fields-preserved
 fields-preserved c =
     let e = c.args.event.now in
     next_cell (as_pools e.string_pool.now e.stack_pool.now) (decimal e.timestamp_ns) ref_view e.fields.now
-    c.fields.value-index _ _ c.fields-test.true c.value-item.is c.fields.invariant c.in-Ok-tri-3.ensures
+    c.fields.value-index c.fields-test.true c.value-item.is c.fields.invariant c.in-Ok-tri-3.ensures

@@ -11,7 +11,7 @@ fields-preserved c =
     let text = c.as_bytes-in-fields.result.now in
     let put : fields_of new ≡ fields_of old ++ (partial_of old ++ text) ∷ [] = search rules in
     record {
-      names = one_name_more (column_name c.args.fields.now) time_name c.fields.place _ _ _ _ c.fields.invariant.names
+      names = one_name_more (column_name c.args.fields.now) time_name c.fields.place _ _ c.fields.invariant.names
           c.fields.invariant.whole (search rules) put;
       whole = search rules;
     }

@@ -10,23 +10,19 @@ use Rattle.trace_csv.proofs.files.table_name.Goals as goal
 
 pub bytes-preserved : goal.bytes-preserved
 bytes-preserved c =
-    let head = decimal c.args.number ++ dash ∷ [] in
     let name = c.args.name.now in
     let i = c.bytes.byte-index in
-    let b = get_or name i 0 in
-    let lt : i < length name = subst (λ (l : List ℕ). i < length l) c.as_bytes-byte-items.ensures.value c.bytes-test.true in
+    let lt : i < length name =
+    subst (λ (l : List ℕ). i < length l) c.as_bytes-byte-items.ensures.value c.bytes-test.true in
     elim c.if-left-gt0.branch [
       | then-left-gt0+then-is_kept+in-Ok-tri-2 w ↦
-          kept_on head name i b c.bytes.left c.if-left-gt0.left (string_bytes c.bytes.text)
-          (string_bytes c.if-left-gt0.text) lt refl (search rules) (search rules) c.bytes.invariant
+          kept_on c.if-left-gt0.left (string_bytes c.if-left-gt0.text) c.bytes.invariant lt (search rules) (search rules)
           (search rules) w.left-is
       | else-left-gt0 w ↦ elim w.else-left-gt0.branch [
         | else-left-gt0-via-then-left-gt0+else-is_kept v ↦
-            rw (w.text-is, w.left-is) (other_left head name i b c.bytes.left (string_bytes c.bytes.text)
-            lt refl (search rules) c.bytes.invariant)
+            rw (w.text-is, w.left-is) (other_left c.bytes.invariant lt (search rules))
         | else-left-gt0-via-else-left-gt0 v ↦
-            rw (w.text-is, w.left-is) (full_left head name i b c.bytes.left (string_bytes c.bytes.text)
-            lt refl (omega (arith, v.if-left-gt0.false)) c.bytes.invariant)
+            rw (w.text-is, w.left-is) (full_left c.bytes.invariant lt (omega (arith, v.if-left-gt0.false)))
       ]
     ]
 

@@ -15,5 +15,5 @@ returns-2 c =
     let all : string_bytes c.fields.out ≡ string_bytes c.push_head.new.out
     ++ flat_map (column_text fields) (range_with_len 0 (length fields)) = search rules in
     let columns = flat_map (column_text fields) (range_with_len 0 (length fields)) in
-    table_ended c.push_end.result (string_bytes c.args.out.now) (table_head c.args.name.now) _ _ columns table_end _
+    table_ended c.push_end.result (string_bytes c.args.out.now) (table_head c.args.name.now) columns table_end _
     c.in-Ok-tri.ensures all c.push_end.ensures
