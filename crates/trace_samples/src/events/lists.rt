@@ -51,7 +51,12 @@ impl TraceEvent for Dynamic {
     }
 
     fn encode_fields(&self, enc: &mut EventEncoder<'_>) -> Result<(), EncodeError> {
-        enc.write_field_value(&self.items, FieldType::DynamicList)?;
-        enc.write_field_value(&self.table, FieldType::DynamicMap)
+        let items = enc.write_field_value(&self.items, FieldType::DynamicList);
+        let table = enc.write_field_value(&self.table, FieldType::DynamicMap);
+        match (items, table) {
+            (Ok(()), table) => table,
+            (Err(EncodeError::OutOfMemory), Err(refusal)) => Err(refusal),
+            (items, _) => items,
+        }
     }
 }
