@@ -1,5 +1,6 @@
 -- Cells that are appended to a row.
-use Rattle.std.proofs.Common.{◌≡◌, ℕ, Bool, true, false, List, [], ◌∷◌, ◌++◌, length, take, get_or, ◌+◌, ◌<◌, ◌≤◌, refl, sym, ap, subst}
+use Rattle.std.proofs.Common.{◌≡◌, ℕ, Bool, true, false, List, [], ◌∷◌, ◌++◌, length, take, get_or, ◌+◌, ◌<◌, ◌≤◌}
+use Rattle.std.proofs.Common.{refl, sym, ap, subst}
 use Rattle.std.proofs.Common.{◌∙◌, rules, Result, Ok, Err, OnOk, map as list_map}
 use Rattle.std.specs.Prelude.{Option, Some, from_bits}
 use Rattle.std.specs.Bool.{MatchBool}

@@ -32,7 +32,8 @@ one_column_more column start n old new so put =
     let front = range_with_len 0 n in
     let more : flat_map column (range_with_len 0 (n + 1)) ≡ flat_map column front ++ column n =
     ap (λ (k : ℕ). flat_map column (range_with_len 0 k)) on ∙ ap (flat_map column) (range_after n 0)
-    ∙ ap (λ (k : ℕ). flat_map column (front ++ k ∷ [])) same ∙ flat_map-append column front (n ∷ []) ∙ ap (λ (t : List ℕ). flat_map column front ++ t) (append-nil (column n)) in
+    ∙ ap (λ (k : ℕ). flat_map column (front ++ k ∷ [])) same ∙ flat_map-append column front (n ∷ [])
+    ∙ ap (λ (t : List ℕ). flat_map column front ++ t) (append-nil (column n)) in
     put ∙ ap (λ (l : List ℕ). l ++ column n) so ∙ append_assoc start (flat_map column front) (column n)
     ∙ ap (λ (l : List ℕ). start ++ l) (sym more)
 

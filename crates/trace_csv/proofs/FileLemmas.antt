@@ -1,5 +1,6 @@
 -- What stays of the name of a schema.
-use Rattle.std.proofs.Common.{◌≡◌, ℕ, zero, suc, ◌^◌, subst, Bool, true, false, List, [], ◌∷◌, ◌++◌, length, take, get_or, ◌+◌, ◌-◌, ◌<◌, ◌≤◌, refl, sym, ap}
+use Rattle.std.proofs.Common.{◌≡◌, ℕ, zero, suc, ◌^◌, subst, Bool, true, false, List, [], ◌∷◌, ◌++◌, length, take}
+use Rattle.std.proofs.Common.{get_or, ◌+◌, ◌-◌, ◌<◌, ◌≤◌, refl, sym, ap}
 use Rattle.std.proofs.Common.{◌∙◌, arith, filter, append_assoc, append-nil}
 use Rattle.std.specs.List.{All}
 use Rattle.std.proofs.lemmas.List.Elements.{All-append, All-take, All-map, All-nil, All-cons}

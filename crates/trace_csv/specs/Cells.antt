@@ -26,4 +26,5 @@ AreCellsOf pools (v ∷ vs) cells =
 
 -- the cells of an event: its time in nanoseconds, and its values
 abbrev pub AreEventCells : ShownEvent → List (List ℕ) → Type 0
-AreEventCells e cells = (values : List (List ℕ)) × AreCellsOf e.pools e.values values × (cells ≡ decimal e.time ∷ values)
+AreEventCells e cells =
+    (values : List (List ℕ)) × AreCellsOf e.pools e.values values × (cells ≡ decimal e.time ∷ values)

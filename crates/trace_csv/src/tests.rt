@@ -200,4 +200,5 @@ fn texts_of_tables(rt: HostRuntime) -> Result<(), Fail> {
 }
 
 const TABLE: &str =
-    "CREATE TABLE \"1-Ev\" (\n  \"timestamp_ns\" UBIGINT,\n  \"n\" UBIGINT,\n  \"i\" BIGINT,\n  \"f\" DOUBLE,\n  \"b\" BOOLEAN,\n  \"t\" VARCHAR\n);\n";
+    "CREATE TABLE \"1-Ev\" (\n  \"timestamp_ns\" UBIGINT,\n  \"n\" UBIGINT,\n  \"i\" BIGINT,\n\
+     \x20 \"f\" DOUBLE,\n  \"b\" BOOLEAN,\n  \"t\" VARCHAR\n);\n";

@@ -23,7 +23,8 @@ returns-in-Some c =
     let pushed : Pushed push.result c.args.row.now push.new.self c.as_bytes-in-Some.result.now =
     record { fields = push.ensures.fields; partial = push.ensures.partial } in
     cell_pushed push.result (IsCellOf pools (ref_view c.args.value.now)) c.in-Some.text.now pushed c.requires
-    (search rules) (pooled_cell pools c.args.value.now c.in-PooledString.id c.in-Some.text.now c.in-PooledString.is found)
+    (search rules)
+    (pooled_cell pools c.args.value.now c.in-PooledString.id c.in-Some.text.now c.in-PooledString.is found)
 
 pub returns-in-None : goal.returns-in-None
 returns-in-None c =

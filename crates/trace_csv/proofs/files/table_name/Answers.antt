@@ -1,4 +1,5 @@
-use Rattle.std.proofs.Common.{◌≡◌, ◌++◌, ◌∷◌, [], ℕ, true, false, List, length, ◌<◌, ◌≤◌, append_assoc, get_or, refl, rules, arith, ap, sym, subst, ◌∙◌, string_bytes}
+use Rattle.std.proofs.Common.{◌≡◌, ◌++◌, ◌∷◌, [], ℕ, true, false, List, length, ◌<◌, ◌≤◌, append_assoc, get_or, refl}
+use Rattle.std.proofs.Common.{rules, arith, ap, sym, subst, ◌∙◌, string_bytes}
 use Rattle.std.specs.Fmt.{decimal}
 use Rattle.std.specs.List.{All}
 use Rattle.trace_csv.specs.Files.{dash, is_kept, table_name}
@@ -16,8 +17,8 @@ bytes-preserved c =
     subst (λ (l : List ℕ). i < length l) c.as_bytes-byte-items.ensures.value c.bytes-test.true in
     elim c.if-left-gt0.branch [
       | then-left-gt0+then-is_kept+in-Ok-tri-2 w ↦
-          kept_on c.if-left-gt0.left (string_bytes c.if-left-gt0.text) c.bytes.invariant lt (search rules) (search rules)
-          (search rules) w.left-is
+          kept_on c.if-left-gt0.left (string_bytes c.if-left-gt0.text) c.bytes.invariant lt (search rules)
+          (search rules) (search rules) w.left-is
       | else-left-gt0 w ↦ elim w.else-left-gt0.branch [
         | else-left-gt0-via-then-left-gt0+else-is_kept v ↦
             rw (w.text-is, w.left-is) (other_left c.bytes.invariant lt (search rules))
