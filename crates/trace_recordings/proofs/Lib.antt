@@ -8,3 +8,5 @@ pub mod PlayedOrRefused
 pub mod EventValues
 pub mod SinkTexts
 pub mod SampleTypes
+pub mod FedInPieces
+pub mod ToldOfPieces

@@ -3,6 +3,7 @@ use Rattle.std.specs.Prelude.{◌≡◌, ◌≢◌, ◌⊎◌, ◌↔◌, ℕ, L
 use Rattle.std.specs.declared.alloc.Global.{Global}
 use Rattle.hex.specs.Hex.{decode_of}
 use Rattle.std.specs.Borrow.{Bor}
+use Rattle.std.specs.List.{AllByRecursion}
 use Rattle.trace_lines.specs.Dumps.{IsDumpAs}
 use Rattle.trace_lines.specs.declared.dump.DumpForm.{DumpForm}
 use Rattle.trace_lines.specs.declared.dump.DumpForm.TheVariants.{Frames, Events}
@@ -16,6 +17,7 @@ use Rattle.trace_recordings.specs.declared.recording.Readings.{Readings}
 use Rattle.trace_recordings.specs.declared.recording.Recording.{Recording}
 use Rattle.trace_recordings.specs.declared.script.call.ScriptCall.{ScriptCall}
 use Rattle.trace_recordings.specs.Comparisons.{ended}
+use Rattle.trace_recordings.specs.Pieces.{AreGivenAlike, AreGivenApart, piece_sizes}
 use Rattle.trace_recordings.specs.Playing.{IsPlayed, IsOfScript}
 use Rattle.trace_recordings.specs.Refusals.{RefusesScript, FirstMissing}
 use Rattle.trace_recordings.specs.Scripts.{IsScript}
@@ -91,6 +93,15 @@ abbrev pub ShowsSink : List ℕ → Option Readings → PartFinding → Type 0
 ShowsSink trace None outcome = outcome ≡ Absent
 ShowsSink trace (Some readings) outcome = ShowsSinkLines trace readings.sink.now outcome
 
+-- Where no difference is told, the trace gives the same in pieces of each size as whole; where one is, not so in
+-- pieces of some size.
+abbrev pub ShowsPieces : List ℕ → PartFinding → Type 0
+ShowsPieces trace Absent = ⊥
+ShowsPieces trace (LeftOut name) = ⊥
+ShowsPieces trace (Compared differences) =
+    (differences.items ≡ [] → AllByRecursion (AreGivenAlike trace) piece_sizes)
+    × (differences.items ≢ [] → (size : ℕ) × AreGivenApart trace size)
+
 -- a difference is told
 abbrev pub TellsOne : PartFinding → Type 0
 TellsOne Absent = ⊥
@@ -104,3 +115,4 @@ pub record ShowsUnread (f : Findings) : Type 0 where
   pub borrowed : f.borrowed ≡ Absent
   pub resolved : f.resolved ≡ Absent
   pub sink : f.sink ≡ Absent
+  pub pieces : f.pieces ≡ Absent

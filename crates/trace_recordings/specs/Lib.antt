@@ -1,6 +1,7 @@
 pub mod Comparisons
 pub mod Definitions
 pub mod Findings
+pub mod Pieces
 pub mod Playing
 pub mod Pools
 pub mod Scripts

@@ -2,10 +2,11 @@
 
 ghost use Rattle.std.specs.Prelude.{◌≡◌, ◌↔◌, [], IfOk, codes, string_bytes};
 ghost use Rattle.trace_recordings.specs.Comparisons.{ended};
-ghost use Rattle.trace_recordings.specs.Findings.{borrowed_lines, IsUnread, ShowsBorrowed, ShowsDump, ShowsResolved};
-ghost use Rattle.trace_recordings.specs.Findings.{ShowsScript, ShowsSink, ShowsUnread, WhereRead};
+ghost use Rattle.trace_recordings.specs.Findings.{borrowed_lines, IsUnread, ShowsBorrowed, ShowsDump, ShowsPieces};
+ghost use Rattle.trace_recordings.specs.Findings.{ShowsResolved, ShowsScript, ShowsSink, ShowsUnread, WhereRead};
 
 use crate::compare::{bytes_difference, lines_difference};
+use crate::pieces::first_apart;
 use crate::player::{PlayError, Played, play};
 use crate::recording::{Calls, Readings, Recording};
 use crate::sink::sink_lines;
@@ -38,10 +39,13 @@ pub struct Findings {
     pub resolved: PartFinding,
     /// What a sink is given.
     pub sink: PartFinding,
+    /// What is given of the trace in pieces, beside what is given of it whole.
+    pub pieces: PartFinding,
 }
 
 /// Plays the script of a recording, dumps its trace, by each reader and with resolved events, and shows its events to
-/// a sink, and compares what comes of it with the recording. Where the recorded bytes cannot be read that is told as
+/// a sink, and compares what comes of it with the recording. Feeds the trace in pieces of 1, 2, 3, 5 and 4,096 bytes,
+/// and compares what is given with what is given of it whole. Where the recorded bytes cannot be read that is told as
 /// a difference of the dump. `AllocError` where a growth was refused, by whichever of these.
 pub fn findings_of(alloc: Global, recording: Recording<'_>) -> Result<Findings, AllocError>
     ensures script { IfOk result
@@ -59,6 +63,8 @@ pub fn findings_of(alloc: Global, recording: Recording<'_>) -> Result<Findings, 
     ensures sink { IfOk result
         (λ f. WhereRead recording.entry
         (λ trace. ShowsSink trace recording.entry.readings f.sink)) }
+    ensures pieces { IfOk result
+        (λ f. WhereRead recording.entry (λ trace. ShowsPieces trace f.pieces)) }
     ensures unread { IfOk result (λ f. IsUnread recording.entry → ShowsUnread f) }
 {
     match hex::decode(alloc, recording.bytes) {
@@ -73,6 +79,7 @@ pub fn findings_of(alloc: Global, recording: Recording<'_>) -> Result<Findings, 
             borrowed: borrowed_outcome(alloc, recording.dump, recording.readings, &trace)?,
             resolved: resolved_outcome(alloc, recording.readings, &trace)?,
             sink: sink_outcome(alloc, recording.readings, &trace)?,
+            pieces: pieces_outcome(alloc, &trace)?,
         }),
         Err(FromHexError::OutOfMemory) => Err(AllocError),
         Err(error) => unread_findings(alloc, &error),
@@ -90,6 +97,7 @@ fn unread_findings(alloc: Global, error: &FromHexError) -> Result<Findings, Allo
         borrowed: PartFinding::Absent,
         resolved: PartFinding::Absent,
         sink: PartFinding::Absent,
+        pieces: PartFinding::Absent,
     })
 }
 
@@ -188,6 +196,20 @@ fn sink_outcome(
     let found = sink_lines(alloc, trace)?;
     let differences = text_differences(alloc, SINK_NAME, readings.sink, found.as_bytes())?;
     Ok(PartFinding::Compared(differences))
+}
+
+// Feeds a trace in pieces, and compares what is given with what is given of it whole.
+#[tactic(auto, using(crate::proofs::ToldOfPieces::shows_alike, crate::proofs::ToldOfPieces::shows_apart))]
+fn pieces_outcome(alloc: Global, trace: &[u8]) -> Result<PartFinding, AllocError>
+    ensures { IfOk result (ShowsPieces trace.now) }
+{
+    let Some(size) = first_apart(alloc, trace)? else {
+        return Ok(PartFinding::Compared(Vec::new(alloc)));
+    };
+    let difference = format!(in alloc;
+        "in pieces of {size} bytes not the same is given as of the whole"
+    )?;
+    Ok(PartFinding::Compared(vec![in alloc; difference]?))
 }
 
 // Dumps a trace, and compares the lines, whose last one tells the status. A vector as a writer wants nothing but

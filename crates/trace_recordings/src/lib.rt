@@ -3,6 +3,7 @@
 
 mod compare;
 mod findings;
+mod pieces;
 pub mod player;
 pub mod program;
 mod recording;

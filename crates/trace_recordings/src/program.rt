@@ -133,7 +133,8 @@ fn print_findings(rt: &impl Print, set: &str, name: &str, findings: &Findings) -
     print_differences(rt, set, name, &findings.dump)?;
     print_differences(rt, set, name, &findings.borrowed)?;
     print_differences(rt, set, name, &findings.resolved)?;
-    print_differences(rt, set, name, &findings.sink)
+    print_differences(rt, set, name, &findings.sink)?;
+    print_differences(rt, set, name, &findings.pieces)
 }
 
 // Prints each difference in a part of a recording.

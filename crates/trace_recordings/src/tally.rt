@@ -16,6 +16,8 @@ pub struct SetTally {
     dumps: Parts,
     // What the borrowed reader and a sink made.
     readings: Parts,
+    // What was given in pieces.
+    pieces: Parts,
 }
 
 // How many parts of one kind were compared, and how many were left out, by the name of what the library has not.
@@ -39,12 +41,14 @@ impl SetTally {
         ensures scripts { seen_in result.scripts ≡ nothing_seen }
         ensures dumps { seen_in result.dumps ≡ nothing_seen }
         ensures readings { seen_in result.readings ≡ nothing_seen }
+        ensures pieces { seen_in result.pieces ≡ nothing_seen }
     {
         SetTally {
             recordings: 0,
             scripts: Parts::new(alloc),
             dumps: Parts::new(alloc),
             readings: Parts::new(alloc),
+            pieces: Parts::new(alloc),
         }
     }
 
@@ -58,12 +62,16 @@ impl SetTally {
             (seen_in self.new.dumps ≡ with_outcome findings.now.dump (seen_in self.old.dumps)) }
         ensures readings { OnOk result
             (seen_in self.new.readings ≡ with_readings findings.now (seen_in self.old.readings)) }
+        ensures pieces { OnOk result
+            (seen_in self.new.pieces
+            ≡ with_outcome findings.now.pieces (seen_in self.old.pieces)) }
     {
         self.scripts.add(&findings.script)?;
         self.dumps.add(&findings.dump)?;
         self.readings.add(&findings.borrowed)?;
         self.readings.add(&findings.resolved)?;
         self.readings.add(&findings.sink)?;
+        self.pieces.add(&findings.pieces)?;
         self.recordings = self.recordings.saturating_add(1);
         Ok(())
     }
@@ -72,9 +80,12 @@ impl SetTally {
     pub fn differs(&self) -> bool
         ensures { IsTrue result
             ↔ ((0 < self.now.scripts.differences) ⊎ (0 < self.now.dumps.differences)
-            ⊎ (0 < self.now.readings.differences)) }
+            ⊎ (0 < self.now.readings.differences) ⊎ (0 < self.now.pieces.differences)) }
     {
-        self.scripts.differences > 0 || self.dumps.differences > 0 || self.readings.differences > 0
+        self.scripts.differences > 0
+            || self.dumps.differences > 0
+            || self.readings.differences > 0
+            || self.pieces.differences > 0
     }
 }
 
@@ -146,13 +157,19 @@ impl fmt::Display for SetTally {
         let scripts = &self.scripts;
         let dumps = &self.dumps;
         let readings = &self.readings;
+        let pieces = &self.pieces;
         let differences = scripts
             .differences
             .saturating_add(dumps.differences)
-            .saturating_add(readings.differences);
+            .saturating_add(readings.differences)
+            .saturating_add(pieces.differences);
         write!(
             f,
-            "{recordings} recordings; scripts: {scripts}; dumps: {dumps}; readings: {readings}; {differences} differ"
+            "{recordings} recordings; scripts: {scripts}; dumps: {dumps}; "
+        )?;
+        write!(
+            f,
+            "readings: {readings}; pieces: {pieces}; {differences} differ"
         )
     }
 }
