@@ -42,7 +42,8 @@ class TraceError(Exception):
 
 
 class _Report(ctypes.Structure):
-    _fields_ = [("length", ctypes.c_size_t), ("place", ctypes.c_size_t), ("detail", ctypes.c_size_t)]
+    _fields_ = [("length", ctypes.c_size_t), ("place", ctypes.c_size_t), ("detail", ctypes.c_size_t),
+                ("events", ctypes.c_uint64)]
 
 
 def _load():
@@ -201,12 +202,12 @@ def record(events):
 
 
 def check(trace):
-    """How many bytes of a trace read whole: all of them. `TraceError` where they do not, with `length` and `place`."""
+    """How many events a trace holds, which reads whole. `TraceError` where it does not, with `length` and `place`."""
     report = _Report()
     code = _library.trace_check(trace, len(trace), ctypes.byref(report))
     if code != DONE:
         raise TraceError(code, report.length, report.place, report.detail)
-    return report.length
+    return report.events
 
 
 def dump(trace, resolve=False):
@@ -328,5 +329,3 @@ def read(trace):
             yield _Line(line).event()
     if status:
         check(trace)
-        # (an event of a text that is not UTF-8 ends this reading, and not that of `check`)
-        raise TraceError(54, int(lines.split()[-1]), int(lines.split()[-1]), 0)
