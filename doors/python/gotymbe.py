@@ -129,6 +129,8 @@ class Batch:
     def add(self, schema, time, values):
         """An event of the schema at a time in nanoseconds. A value of `POOLED_STRING` is a text, one of
         `POOLED_STACK` a tuple of addresses."""
+        if len(values) != len(schema.fields):
+            raise ValueError(f"{len(values)} values for {len(schema.fields)} fields")
         spelled = b"".join(self._field(kind, value) for (_, kind), value in zip(schema.fields, values))
         if id(schema) not in self._schemas:
             # (kept beside its number, so that no other schema gets its identity)
