@@ -50,12 +50,13 @@ typedef struct {
     size_t length; /* bytes written, or needed; of trace_check how many read whole */
     size_t place;  /* the record of a batch, from 0; the byte of a trace */
     size_t detail; /* the field, wire id or byte that the number speaks of; of trace_dump the status of `tracedump` */
+    uint64_t events; /* of trace_check how many events stand in what reads whole */
 } trace_report;
 
 /* The trace of a batch, with a header of its own. Traces may stand one after another in a file. */
 uint32_t trace_record(const uint8_t *batch, size_t batch_len, uint8_t *out, size_t out_len, trace_report *report);
 
-/* Whether a trace reads whole, and else how far and why. */
+/* Whether a trace reads whole, by all readers, and else how far and why. */
 uint32_t trace_check(const uint8_t *trace, size_t trace_len, trace_report *report);
 
 /* The lines of a trace: all frames as they are, or its events with texts and stacks in place of ids. */
@@ -99,7 +100,7 @@ static inline void trace_put_name(trace_batch *b, const char *name) {
     trace_put(b, name, n);
 }
 
-/* A schema under a number of your own. As many calls of trace_field follow, then trace_annotations. */
+/* A schema under a number of your own. Names have at most 65,535 bytes. As many calls of trace_field follow, then trace_annotations. */
 static inline void trace_schema(trace_batch *b, uint16_t number, const char *name, uint16_t fields) {
     trace_put_number(b, 1, 1);
     trace_put_number(b, number, 2);

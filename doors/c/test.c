@@ -57,7 +57,7 @@ int main(void) {
     expect(trace_record(batch.bytes, batch.length, trace, sizeof trace, &report) == TRACE_DONE, "recorded");
     expect(report.length == needed && needed > 4, "as long as was told");
     size_t length = report.length;
-    expect(trace_check(trace, length, &report) == TRACE_DONE && report.length == length, "whole");
+    expect(trace_check(trace, length, &report) == TRACE_DONE && report.length == length && report.events == 2, "whole");
     expect(trace_dump(trace, length, true, lines, sizeof lines, &report) == TRACE_DONE && report.detail == 0, "dumped");
     expect(report.length == strlen(LINES) && !memcmp(lines, LINES, report.length), "the lines");
 
@@ -66,6 +66,7 @@ int main(void) {
     memcpy(both, trace, length);
     memcpy(both + length, trace, length);
     expect(trace_check(both, 2 * length, &report) == TRACE_DONE && report.length == 2 * length, "two traces");
+    expect(report.events == 4, "the events of both");
     for (size_t n = 5; n < length; n++) {
         uint32_t code = trace_check(both, n, &report);
         expect(code == TRACE_DONE ? report.length == n : report.length < n && report.place <= n, "a front");

@@ -42,7 +42,8 @@ class TraceError(Exception):
 
 
 class _Report(ctypes.Structure):
-    _fields_ = [("length", ctypes.c_size_t), ("place", ctypes.c_size_t), ("detail", ctypes.c_size_t)]
+    _fields_ = [("length", ctypes.c_size_t), ("place", ctypes.c_size_t), ("detail", ctypes.c_size_t),
+                ("events", ctypes.c_uint64)]
 
 
 def _load():
@@ -128,6 +129,8 @@ class Batch:
     def add(self, schema, time, values):
         """An event of the schema at a time in nanoseconds. A value of `POOLED_STRING` is a text, one of
         `POOLED_STACK` a tuple of addresses."""
+        if len(values) != len(schema.fields):
+            raise ValueError(f"{len(values)} values for {len(schema.fields)} fields")
         spelled = b"".join(self._field(kind, value) for (_, kind), value in zip(schema.fields, values))
         if id(schema) not in self._schemas:
             # (kept beside its number, so that no other schema gets its identity)
@@ -201,12 +204,12 @@ def record(events):
 
 
 def check(trace):
-    """How many bytes of a trace read whole: all of them. `TraceError` where they do not, with `length` and `place`."""
+    """How many events a trace holds, which reads whole. `TraceError` where it does not, with `length` and `place`."""
     report = _Report()
     code = _library.trace_check(trace, len(trace), ctypes.byref(report))
     if code != DONE:
         raise TraceError(code, report.length, report.place, report.detail)
-    return report.length
+    return report.events
 
 
 def dump(trace, resolve=False):
@@ -328,5 +331,3 @@ def read(trace):
             yield _Line(line).event()
     if status:
         check(trace)
-        # (an event of a text that is not UTF-8 ends this reading, and not that of `check`)
-        raise TraceError(54, int(lines.split()[-1]), int(lines.split()[-1]), 0)

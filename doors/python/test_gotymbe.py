@@ -95,7 +95,7 @@ class Doors(unittest.TestCase):
         kinds += [(optional(kind), None, "None") for kind, _, _ in KINDS]
         schema = Schema("All", [(f"f{at}", kind) for at, (kind, _, _) in enumerate(kinds)], [(0, "unit", "ns")])
         trace = record([(schema, 5, [value for _, value, _ in kinds])])
-        self.assertEqual(check(trace), len(trace))
+        self.assertEqual(check(trace), 1)
         [event] = gotymbe.read(trace)
         read_back = {STRING_MAP: [(b"k", b"v")], LIST: [1, "x"], MAP: [(False, [])]}
         self.assertEqual((event.name, event.time), ("All", 5))
@@ -141,7 +141,7 @@ class Doors(unittest.TestCase):
             schema = Schema("S", [("v", kind)])
             for size in sizes:
                 trace = record([(schema, 1, [made(size)])])
-                self.assertEqual(check(trace), len(trace))
+                self.assertEqual(check(trace), 1)
                 [event] = gotymbe.read(trace)
                 self.assertEqual(len(event.values["v"]), size)
         for count in (0, 1, 255, 256, 4097, 65535):
@@ -154,7 +154,7 @@ class Doors(unittest.TestCase):
             batch = tick.record(0) + b"".join(
                 b"\x02\0\0" + struct.pack("<QHB", at, 1, VARINT) + gotymbe._leb128(at) for at in range(count))
             trace = record_batch(batch)
-            self.assertEqual(check(trace), len(trace))
+            self.assertEqual(check(trace), count)
             self.assertEqual(dump(trace).count("\nevent "), count)
 
     def test_recorded_traces(self):
@@ -171,9 +171,11 @@ class Doors(unittest.TestCase):
                             self.assertEqual(len(list(gotymbe.read(data))), lines.count(b"\nevent "), (path, name))
                         self.assertEqual(status, {"header": 1, "whole": 0, "stopped": 2, "conflict": 3}[end[1]])
                         seen += 1
-                end = parts["dump"][-1].split() if "dump" in parts else []
+                # (checked by all readers: to that of borrowed values bad UTF-8 is no frame)
+                lines = parts.get("borrowed", parts.get("dump", []))
+                end = lines[-1].split() if lines else []
                 if end[:2] == ["end", "whole"]:
-                    self.assertEqual(check(data), len(data), (path, name))
+                    self.assertEqual(check(data), sum(it.startswith("event ") for it in lines), (path, name))
                 elif end:
                     with self.assertRaises(TraceError) as it:
                         check(data)

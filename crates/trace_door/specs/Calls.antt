@@ -1,14 +1,15 @@
 -- What each call of the door does.
-use Rattle.std.specs.Prelude.{◌≡◌, ◌⊎◌, ℕ, Bool, List, Option, Some, None}
+use Rattle.std.specs.Prelude.{◌≡◌, ◌⊎◌, ℕ, Bool, List, take, Option, Some, None}
 use Rattle.trace_lines.specs.Dumps.{IsDump}
 use Rattle.trace_fronts.specs.Fronts.{IsWholeFront}
-use Rattle.trace_fronts.specs.declared.whole.Readers.TheVariants.{Owned}
+use Rattle.trace_fronts.specs.declared.whole.Readers.TheVariants.{Both}
 use Rattle.trace_fronts.specs.declared.whole.Stop.{Stop}
 use Rattle.trace_fronts.specs.declared.whole.Front.{Front}
 use Rattle.trace_batch.specs.Recording.{IsTraceOfBatch, RefusesBatch}
 use Rattle.trace_batch.specs.declared.batch_error.BatchError.{BatchError}
 use Rattle.trace_door.specs.Codes.{done_code, memory_code, cause_code, cause_field, stop_code, stop_detail}
 use Rattle.trace_door.specs.Filling.{Fills}
+use Rattle.trace_door.specs.Counting.{CountsEvents}
 use Rattle.trace_door.specs.declared.codes.TraceReport.{TraceReport}
 
 -- the trace of the batch went into the room, or is too long for it
@@ -37,12 +38,13 @@ TellsStop None report code = code ≡ done_code
 TellsStop (Some stop) report code = (code ≡ stop_code stop.cause) × (report.place ≡ stop.place)
     × (report.detail ≡ stop_detail stop.cause)
 
--- how far the reader of owned values takes the bytes to their end, and why no further
+-- how far both readers take the bytes to their end, and why no further; and how many events that holds
 pub record ChecksFront (bytes : List ℕ) (report : TraceReport) (code : ℕ) : Type 0 where
   pub front : Front
-  pub is : IsWholeFront Owned bytes front
+  pub is : IsWholeFront Both bytes front
   pub length_is : report.length ≡ front.length
   pub stop : TellsStop front.stop report code
+  pub counted : CountsEvents (take front.length bytes) report.events
 
 -- that, or want of memory
 abbrev pub Checks : List ℕ → TraceReport → ℕ → Type 0

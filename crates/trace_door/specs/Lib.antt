@@ -1,4 +1,5 @@
 pub mod Codes
 pub mod Filling
+pub mod Counting
 pub mod Calls
 pub mod parts

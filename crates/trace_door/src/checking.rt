@@ -1,32 +1,45 @@
 //! Whether a trace is whole.
 
-ghost use Rattle.trace_door.specs.Calls.{Checks};
+ghost use Rattle.std.specs.Prelude.{◌≡◌};
+ghost use Rattle.trace_door.specs.Calls.{Checks, TellsStop};
 
 use crate::codes::{DONE, OUT_OF_MEMORY, TraceReport, empty_report, stop_code, stop_detail};
+use crate::counting::events_in;
 use std::alloc::Global;
-use trace_fronts::whole::{Readers, whole_front};
+use trace_fronts::whole::{Readers, Stop, whole_front};
 
-/// How far a trace reads whole (docs/DOORS.md, "trace_check").
+/// How far a trace reads whole, by all readers (docs/DOORS.md, "trace_check").
 ///
 /// `DONE`: to its end. Any other but `OUT_OF_MEMORY`: its first `length` bytes do, and the number says why no frame
-/// stands there, with the place of that in `place`.
+/// stands there, with the place of that in `place`. `events` are those of what reads whole.
 #[unsafe(no_mangle)]
 pub extern "C" fn trace_check(alloc: Global, trace: &[u8], report: &mut TraceReport) -> u32
     ensures { Checks trace.now report.new result }
 {
     *report = empty_report();
-    match whole_front(alloc, trace, Readers::Owned) {
-        Ok(front) => {
-            report.length = front.length;
-            match front.stop {
-                Some(stop) => {
-                    report.place = stop.place;
-                    report.detail = stop_detail(stop.cause);
-                    stop_code(stop.cause)
-                }
-                None => DONE,
-            }
+    let Ok(front) = whole_front(alloc, trace, Readers::Both) else {
+        return OUT_OF_MEMORY;
+    };
+    let Ok(events) = events_in(alloc, &trace[..front.length]) else {
+        return OUT_OF_MEMORY;
+    };
+    report.length = front.length;
+    report.events = events;
+    tell_stop(front.stop, report)
+}
+
+/// Tells why the front ends, and where.
+fn tell_stop(stop: Option<Stop>, report: &mut TraceReport) -> u32
+    ensures told { TellsStop stop report.new result }
+    ensures length { report.new.length ≡ report.old.length }
+    ensures events { report.new.events ≡ report.old.events }
+{
+    match stop {
+        Some(stop) => {
+            report.place = stop.place;
+            report.detail = stop_detail(stop.cause);
+            stop_code(stop.cause)
         }
-        Err(_) => OUT_OF_MEMORY,
+        None => DONE,
     }
 }

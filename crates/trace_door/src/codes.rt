@@ -18,6 +18,8 @@ pub struct TraceReport {
     pub place: usize,
     /// The field, the wire id or the byte that the number speaks of; of a dump the status of `tracedump`.
     pub detail: usize,
+    /// Of a check, how many events stand in what reads whole.
+    pub events: u64,
 }
 
 /// All was done.
@@ -35,6 +37,7 @@ pub(crate) fn empty_report() -> TraceReport
         length: 0,
         place: 0,
         detail: 0,
+        events: 0,
     }
 }
 

@@ -4,6 +4,7 @@
 
 mod checking;
 mod codes;
+mod counting;
 mod dumping;
 mod filling;
 mod recording;

@@ -65,12 +65,12 @@ impl Schema {
         out.push(1);
         out.extend_from_slice(&number.to_le_bytes());
         put_name(&self.name, out);
-        out.extend_from_slice(&(self.fields.len() as u16).to_le_bytes());
+        put_short_count(self.fields.len(), out);
         for (name, tag) in &self.fields {
             put_name(name, out);
             out.push(*tag);
         }
-        out.extend_from_slice(&(self.annotations.len() as u16).to_le_bytes());
+        put_short_count(self.annotations.len(), out);
         for (field, key, value) in &self.annotations {
             out.extend_from_slice(&field.to_le_bytes());
             put_name(key, out);
@@ -150,7 +150,9 @@ impl Batch {
     ///
     /// # Panics
     ///
-    /// At more than 65,536 schemas, 65,535 values, or 4,294,967,296 texts or stacks in one batch.
+    /// At more than 65,536 schemas, 65,535 values, or 4,294,967,296 texts or stacks in one batch; at a schema with more
+    /// than 65,535 fields, annotations, or bytes of a name; and at a text, stack, list or map that four bytes do not
+    /// count.
     pub fn event(&mut self, schema: &Schema, time: u64, values: &[Value<'_>]) {
         let number = match self.schemas.get(schema) {
             Some(number) => *number,
@@ -258,13 +260,13 @@ impl<W: Write> Recorder<W> {
 }
 
 fn put_name(name: &str, out: &mut Vec<u8>) {
-    // (a longer name than two bytes count is cut to its whole characters that fit, and never wraps)
-    let mut end = name.len().min(usize::from(u16::MAX));
-    while !name.is_char_boundary(end) {
-        end -= 1;
-    }
-    out.extend_from_slice(&(end as u16).to_le_bytes());
-    out.extend_from_slice(&name.as_bytes()[..end]);
+    put_short_count(name.len(), out);
+    out.extend_from_slice(name.as_bytes());
+}
+
+fn put_short_count(count: usize, out: &mut Vec<u8>) {
+    let count = u16::try_from(count).expect("names, fields and annotations that two bytes count");
+    out.extend_from_slice(&count.to_le_bytes());
 }
 
 fn put_counted(bytes: &[u8], out: &mut Vec<u8>) {

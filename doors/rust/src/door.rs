@@ -8,6 +8,7 @@ struct Report {
     length: usize,
     place: usize,
     detail: usize,
+    events: u64,
 }
 
 extern "C" {
@@ -56,12 +57,12 @@ pub fn record_batch(batch: &[u8]) -> Result<Vec<u8>, Error> {
     }
 }
 
-/// Whether a trace reads whole; else how far, and why.
-pub fn check(trace: &[u8]) -> Result<(), Error> {
+/// How many events a trace holds, which reads whole; else how far it does, and why no further.
+pub fn check(trace: &[u8]) -> Result<u64, Error> {
     let mut report = Report::default();
     // SAFETY: as above.
     match unsafe { trace_check(trace.as_ptr(), trace.len(), &mut report) } {
-        DONE => Ok(()),
+        DONE => Ok(report.events),
         code => Err(Error::Trace {
             cause: Cause::of(code),
             length: report.length,

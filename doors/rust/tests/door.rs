@@ -49,7 +49,7 @@ fn each_type() -> Result<(), Error> {
     ];
     recorder.event(&all_types(), 5, &values)?;
     let trace = recorder.finish()?;
-    check(&trace)?;
+    assert_eq!(check(&trace)?, 1);
     let lines = dump(&trace, true)?.lines;
     let wanted = "trace version 1\nevent \"All\" timestamp_ns=5 \"i\"=I64:-3 \"f\"=F64:0x3ff8000000000000 \
         \"b\"=Bool:true \"s\"=String:\"a\\x22b\" \"y\"=Bytes:\"\\x00\\xFF\" \"p\"=String:\"GET /\" \
