@@ -1,11 +1,14 @@
 //! What is read.
 
+use crate::tasks::Call;
 use gotymbe_plan::ending::Ending;
+use gotymbe_plan::progress::{how_far, is_told_of, push_progress};
 use std::alloc::Global;
 use std::fs::File;
 use std::io;
 use std::io::{ErrorKind, Read};
-use std::rt::Files;
+use std::rt::{Clock, Files};
+use std::time::Instant;
 use trace_fronts::whole::{Readers, whole_front};
 
 /// A file, or standard input.
@@ -26,17 +29,71 @@ impl<I: Read + Drop> Read for Source<I> {
     }
 }
 
-/// A reader, and the last kind of error that it gave.
+// How far reading is, as it was told.
+#[derive(Clone, Copy)]
+struct Meter {
+    of: u64,
+    done: u64,
+    begun: Instant,
+    percent: Option<u64>,
+}
+
+/// A reader, and the last kind of error that it gave. It tells how far it is where it has a meter.
 #[derive(Drop)]
-pub(crate) struct Noted<R: Read + Drop> {
-    pub(crate) inner: R,
+pub(crate) struct Watched<'h, H: AllocGlobal + Eprint + Clock, R: Read + Drop> {
+    rt: &'h H,
+    name: &'h str,
+    inner: R,
+    meter: Option<Meter>,
     pub(crate) error: Option<ErrorKind>,
 }
 
-impl<R: Read + Drop> Read for Noted<R> {
+impl<H: AllocGlobal + Eprint + Clock, R: Read + Drop> Watched<'_, H, R> {
+    // Tells that so many bytes more were read.
+    fn go_on(&mut self, count: usize) {
+        if let Some(meter) = self.meter {
+            self.meter = Some(meter.gone_on(self.rt, self.name, count));
+        }
+    }
+
+    /// Removes what was told from the terminal.
+    pub(crate) fn finish(&self) {
+        if self.meter.is_some() {
+            let _ = eprint!(self.rt; "\x1b[K");
+        }
+    }
+}
+
+impl Meter {
+    // Tells how far reading is, where it is further than what was told.
+    fn gone_on(self, rt: &(impl AllocGlobal + Eprint + Clock), name: &str, count: usize) -> Meter {
+        let done = self.done.saturating_add(count as u64);
+        let elapsed_ms = match self.begun.elapsed(rt) {
+            Ok(elapsed) => u64::try_from(elapsed.as_millis()).unwrap_or(u64::MAX),
+            Err(_) => 0,
+        };
+        let far = how_far(done, self.of, elapsed_ms);
+        if self.percent != Some(far.percent) {
+            let mut line = String::new(rt.alloc());
+            if push_progress(&mut line, name, far).is_ok() {
+                let _ = eprint!(rt; "{line}");
+            }
+        }
+        Meter {
+            done,
+            percent: Some(far.percent),
+            ..self
+        }
+    }
+}
+
+impl<H: AllocGlobal + Eprint + Clock, R: Read + Drop> Read for Watched<'_, H, R> {
     fn read(&mut self, buf: &mut [u8]) -> io::Result<usize> {
         match self.inner.read(buf) {
-            Ok(count) => Ok(count),
+            Ok(count) => {
+                self.go_on(count);
+                Ok(count)
+            }
             Err(error) => {
                 self.error = Some(error.kind());
                 Err(error)
@@ -46,24 +103,60 @@ impl<R: Read + Drop> Read for Noted<R> {
 }
 
 /// Opens a file, or standard input where the name is `-`.
-pub(crate) fn open<R: Files<File = File> + Input>(
-    rt: &R,
-    name: &str,
-) -> io::Result<Source<R::Reader>> {
+pub(crate) fn open<'h, H: AllocGlobal + Files<File = File> + Input + Eprint + Clock>(
+    rt: &'h H,
+    call: &Call<'_>,
+    name: &'h str,
+) -> io::Result<Watched<'h, H, Source<H::Reader>>> {
     if name == "-" {
-        return Ok(Source::Standard(rt.reader()));
+        return Ok(Watched {
+            rt,
+            name,
+            inner: Source::Standard(rt.reader()),
+            meter: None,
+            error: None,
+        });
     }
-    Ok(Source::Named(File::open(rt, name)?))
+    let file = File::open(rt, name)?;
+    let meter = meter_for(rt, call, file.metadata()?.len());
+    Ok(Watched {
+        rt,
+        name,
+        inner: Source::Named(file),
+        meter,
+        error: None,
+    })
+}
+
+// What tells how far the reading of so many bytes is, if that is told.
+fn meter_for(rt: &impl Clock, call: &Call<'_>, of: u64) -> Option<Meter> {
+    if !is_told_of(of, call.terminal, call.asked.quiet) {
+        return None;
+    }
+    match Instant::now(rt) {
+        Ok(begun) => Some(Meter {
+            of,
+            done: 0,
+            begun,
+            percent: None,
+        }),
+        Err(_) => None,
+    }
 }
 
 /// All bytes of a file, or of standard input; or why they can't be had.
 pub(crate) fn read_all(
-    rt: &(impl AllocGlobal + Files<File = File> + Input),
+    rt: &(impl AllocGlobal + Files<File = File> + Input + Eprint + Clock),
+    call: &Call<'_>,
     name: &str,
 ) -> Result<Vec<u8>, Ending> {
     let mut bytes = Vec::new(rt.alloc());
-    let read = match open(rt, name) {
-        Ok(mut source) => source.read_to_end(&mut bytes),
+    let read = match open(rt, call, name) {
+        Ok(mut input) => {
+            let read = input.read_to_end(&mut bytes);
+            input.finish();
+            read
+        }
         Err(error) => Err(error),
     };
     match read {
@@ -77,17 +170,6 @@ pub(crate) fn unread(kind: ErrorKind) -> Ending {
     match kind {
         ErrorKind::OutOfMemory => Ending::OutOfMemory,
         _ => Ending::Unread(kind),
-    }
-}
-
-/// How the reading of a file ends.
-pub(crate) fn ending_of(
-    rt: &(impl AllocGlobal + Files<File = File> + Input),
-    name: &str,
-) -> Ending {
-    match read_all(rt, name) {
-        Ok(bytes) => front_ending(rt.alloc(), &bytes, Readers::Owned),
-        Err(ending) => ending,
     }
 }
 

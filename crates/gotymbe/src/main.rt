@@ -1,23 +1,28 @@
-//! The program `gotymbe` (docs/TOOLS.md): checks, dumps, saves, joins and follows traces, and writes their events as
-//! JSON. What it decides stands in the crates `gotymbe_words` and `gotymbe_plan`; here that is joined.
+//! The program `gotymbe` (docs/TOOLS.md): checks, shows, counts, saves, joins, cuts and follows traces, and writes
+//! their events as JSON. What it decides stands in the crates `gotymbe_words` and `gotymbe_plan`; here that is joined.
 #![tactic(auto)]
 
 mod events;
 mod follow;
 mod input;
+mod merge;
 mod output;
+mod pieces;
 mod tasks;
 
+use crate::tasks::Call;
 use gotymbe_words::asked::{status_by, task_of, what_is_asked};
 use gotymbe_words::command::command;
 use std::env;
 use std::fs::File;
+use std::io::IsTerminal;
 use std::process::ExitCode;
 use std::rt::{Clock, Env, Files};
 use trace_lines::dump::FAILED;
 
 fn main(rt: HostRuntime) -> ExitCode {
-    match run(&rt) {
+    let terminal = rt.stderr().is_terminal();
+    match run(&rt, terminal) {
         Ok(status) => ExitCode::from(status),
         Err(error) => {
             let _ = eprintln!(rt; "gotymbe: {error}");
@@ -29,6 +34,7 @@ fn main(rt: HostRuntime) -> ExitCode {
 /// Does what the words of the call ask for, and answers the status.
 fn run(
     rt: &(impl AllocGlobal + Env + Files<File = File> + Input + Print + Eprint + Clock),
+    terminal: bool,
 ) -> anyhow::Result<u8> {
     let alloc = rt.alloc();
     let words: Vec<String> = env::args(rt)?.collect(alloc)?;
@@ -42,7 +48,10 @@ fn run(
     };
     match matches.subcommand() {
         Some((name, given)) => match task_of(name) {
-            Some(task) => tasks::carry_out(rt, &what_is_asked(alloc, task, given)?),
+            Some(task) => {
+                let asked = what_is_asked(alloc, task, given)?;
+                tasks::carry_out(rt, &Call { asked, terminal })
+            }
             None => Ok(FAILED),
         },
         None => Ok(FAILED),

@@ -1,8 +1,7 @@
 //! What is written.
 
 use gotymbe_plan::ending::Ending;
-use gotymbe_plan::output::{Standing, Way, way_of};
-use std::alloc::{AllocError, Global};
+use gotymbe_plan::output::{Standing, Way, name_beside, way_of};
 use std::fs::{File, OpenOptions};
 use std::io::ErrorKind;
 use std::rt::Files;
@@ -89,14 +88,20 @@ fn into_place(
     Ok((file, String::new(rt.alloc())))
 }
 
+// Begins to write beside a name: under the first name for that which no file has.
 fn beside(rt: &(impl AllocGlobal + Files<File = File>), name: &str) -> io::Result<(File, String)> {
-    let beside = name_beside(rt.alloc(), name)?;
-    let file = File::create_new(rt, beside.as_str())?;
-    Ok((file, beside))
-}
-
-fn name_beside(alloc: Global, name: &str) -> Result<String, AllocError> {
-    format!(in alloc; "{name}.part")
+    'names: for taken in 0..u64::MAX {
+        let beside = name_beside(rt.alloc(), name, taken)?;
+        match File::create_new(rt, beside.as_str()) {
+            Ok(file) => return Ok((file, beside)),
+            Err(error) => {
+                if error.kind() != ErrorKind::AlreadyExists {
+                    return Err(error);
+                }
+            }
+        }
+    }
+    Err(io::Error::from(ErrorKind::AlreadyExists))
 }
 
 impl Written {

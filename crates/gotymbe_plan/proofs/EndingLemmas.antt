@@ -3,7 +3,8 @@ use Rattle.std.proofs.Common.{◌≡◌, ℕ, List, ◌++◌, codes, Result, Ok,
 use Rattle.std.proofs.Common.{append_assoc}
 use Rattle.trace_fronts.specs.declared.whole.Stop.{Stop}
 use Rattle.gotymbe_plan.specs.Numbers.{IsGrouped}
-use Rattle.gotymbe_plan.specs.Endings.{AppendsStop, AppendsReason, AppendsLine, start_text, cause_text}
+use Rattle.gotymbe_plan.specs.Endings.{AppendsStop, AppendsUnfinished, AppendsReason, AppendsLine}
+use Rattle.gotymbe_plan.specs.Endings.{start_text, cause_text}
 use Rattle.std.specs.declared.io.ErrorKind.{ErrorKind}
 use Rattle.gotymbe_plan.specs.declared.ending.Ending.{Ending}
 use Rattle.gotymbe_plan.specs.declared.ending.Ending.TheVariants.{Unread, Unwritten}
@@ -22,6 +23,16 @@ stop_appended stop old a b new (Ok u) begins (place, grouped, b_is) is =
       is ∙ ap (λ (x : List ℕ). x ++ last) (b_is ∙ ap (λ (x : List ℕ). x ++ place) begins ∙ append_assoc old front place)
           ∙ append_assoc old (front ++ place) last,
     )
+
+-- the place after what begins is where the frame begins inside which an input ends
+pub unfinished_appended :
+    {E : Type 0} (begin : ℕ) (old a new : List ℕ) (r : Result (Unit {0}) E) →
+    a ≡ old ++ codes "ends inside the frame at byte " →
+    OnOk r ((place : List ℕ) × IsGrouped begin place × (new ≡ a ++ place)) → OnOk r (AppendsUnfinished begin old new)
+unfinished_appended begin old a new (Err e) begins placed = placed
+unfinished_appended begin old a new (Ok u) begins (place, grouped, is) =
+    let front = codes "ends inside the frame at byte " in
+    (place, grouped, is ∙ ap (λ (x : List ℕ). x ++ place) begins ∙ append_assoc old front place)
 
 -- a reason after what begins, and then a line feed, are a line
 pub line_appended :

@@ -1,2 +1,5 @@
 pub mod EndingLemmas
+pub mod MergingLemmas
 pub mod NumberLemmas
+pub mod ProgressLemmas
+pub mod StatisticsLemmas

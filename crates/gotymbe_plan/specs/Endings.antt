@@ -10,7 +10,7 @@ use Rattle.trace_lines.specs.Dumps.{whole_status, no_header_status, stopped_stat
 use Rattle.trace_fronts.specs.declared.whole.Stop.{Stop}
 use Rattle.gotymbe_plan.specs.declared.ending.Ending.{Ending}
 use Rattle.gotymbe_plan.specs.declared.ending.Ending.TheVariants.{Whole, Stopped, OutOfMemory, Unread, Unwritten}
-use Rattle.gotymbe_plan.specs.declared.ending.Ending.TheVariants.{Dumped}
+use Rattle.gotymbe_plan.specs.declared.ending.Ending.TheVariants.{Unfinished, Dumped}
 use Rattle.gotymbe_plan.specs.Numbers.{IsGrouped}
 
 -- the ending of a front with this stop, or of all bytes
@@ -22,6 +22,27 @@ stop_ending None = Whole
 pub record IsErrorEnding (place : ℕ) (kind : DecodeErrorKind) (ending : Ending) : Type 0 where
   pub memory : kind ≡ causes.OutOfMemory → ending ≡ OutOfMemory
   pub stop : kind ≢ causes.OutOfMemory → ending ≡ Stopped (record { place = place; cause = kind })
+
+-- the ending of an input that was read to its end: without a header, after its last frame, or inside one
+abbrev pub rest_ending : Option ℕ → ℕ → ℕ → Ending
+rest_ending None position fed_len = Stopped (record { place = 0; cause = causes.NoHeader })
+rest_ending (Some version) position fed_len = if position == fed_len then Whole else Unfinished position
+
+-- a schema conflicts
+abbrev pub IsConflict : DecodeErrorKind → Type 0
+IsConflict (causes.Conflict id) = Unit {0}
+IsConflict cause = ⊥
+
+-- the place is told without its cause, or that after a schema that conflicts
+abbrev pub IsPlaceAlone : Ending → Type 0
+IsPlaceAlone (Unfinished place) = Unit {0}
+IsPlaceAlone (Dumped status) = Unit {0}
+IsPlaceAlone (Stopped stop) = IsConflict stop.cause
+IsPlaceAlone ending = ⊥
+
+-- the cause is to be looked for in all bytes; not of standard input, which can't be read again
+abbrev pub LacksCause : Ending → List ℕ → Type 0
+LacksCause ending name = IsPlaceAlone ending × (name ≢ codes "-")
 
 -- the ending of a dump that failed: for the output, for the input, or for want of memory
 abbrev pub failed_ending : Option ErrorKind → Option ErrorKind → Ending
@@ -50,6 +71,7 @@ HasStatus OutOfMemory status = status ≡ failed_status
 HasStatus (Unread kind) status = status ≡ failed_status
 HasStatus (Unwritten kind) status =
     (kind ≡ errors.BrokenPipe → status ≡ whole_status) × (kind ≢ errors.BrokenPipe → status ≡ failed_status)
+HasStatus (Unfinished place) status = status ≡ stopped_status
 HasStatus (Dumped dump) status = status ≡ dump
 
 -- why no frame stands there
@@ -79,6 +101,11 @@ stop_text place cause = codes "stops at byte " ++ place ++ (codes ": " ++ cause_
 abbrev pub AppendsStop : Stop → List ℕ → List ℕ → Type 0
 AppendsStop stop old new = (place : List ℕ) × IsGrouped stop.place place × (new ≡ old ++ stop_text place stop.cause)
 
+-- where the frame begins inside which an input ends
+abbrev pub AppendsUnfinished : ℕ → List ℕ → List ℕ → Type 0
+AppendsUnfinished place old new = (text : List ℕ) × IsGrouped place text
+    × (new ≡ old ++ (codes "ends inside the frame at byte " ++ text))
+
 -- why reading ended; what is told of an error of the system is not said here
 abbrev pub AppendsReason : Ending → List ℕ → List ℕ → Type 0
 AppendsReason Whole old new = new ≡ old ++ codes "whole"
@@ -86,6 +113,7 @@ AppendsReason (Stopped stop) old new = AppendsStop stop old new
 AppendsReason OutOfMemory old new = new ≡ old ++ codes "out of memory"
 AppendsReason (Unread kind) old new = (said : List ℕ) × (new ≡ old ++ (codes "cannot be read: " ++ said))
 AppendsReason (Unwritten kind) old new = (said : List ℕ) × (new ≡ old ++ (codes "cannot be written: " ++ said))
+AppendsReason (Unfinished place) old new = AppendsUnfinished place old new
 AppendsReason (Dumped status) old new = new ≡ old ++ codes "stops where the last line of its dump tells"
 
 -- the line of a file: the program, the file and the reason, and a line feed

@@ -1,5 +1,5 @@
 -- Which events are asked for.
-use Rattle.std.specs.Prelude.{◌≡◌, ◌⊎◌, ℕ, ◌≤◌, List, [], IfSome, Any}
+use Rattle.std.specs.Prelude.{◌≡◌, ◌⊎◌, ◌↔◌, ℕ, ◌≤◌, ◌<◌, ◌^◌, List, [], IfSome, Any}
 use Rattle.std.specs.Borrow.{Bor}
 use Rattle.gotymbe_plan.specs.declared.filter.Filter.{Filter}
 
@@ -18,3 +18,8 @@ IsNamed filter name = (filter.names.now ≡ []) ⊎ IsAmong filter.names.now nam
 -- both
 abbrev pub IsWanted : Filter → List ℕ → ℕ → Type 0
 IsWanted filter name time = IsInRange filter time × IsNamed filter name
+
+-- the times from the one to the other, both included, are those that are asked for
+abbrev pub HasBounds : Filter → ℕ × ℕ → Type 0
+HasBounds filter bounds = (time : ℕ) → time < 2 ^ 64 →
+    (bounds.0 ≤ time) × (time ≤ bounds.1) ↔ IsInRange filter time

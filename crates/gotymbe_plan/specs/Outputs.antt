@@ -1,5 +1,6 @@
 -- How a file is written.
-use Rattle.std.specs.Prelude.{Bool, true, false}
+use Rattle.std.specs.Prelude.{◌≡◌, ℕ, ◌<◌, Bool, true, false, List, ◌++◌, codes}
+use Rattle.std.specs.Fmt.{decimal}
 use Rattle.gotymbe_plan.specs.declared.output.Standing.{Standing}
 use Rattle.gotymbe_plan.specs.declared.output.Standing.TheVariants.{Nothing, File, Other}
 use Rattle.gotymbe_plan.specs.declared.output.Way.{Way}
@@ -12,3 +13,8 @@ way_for File true = InPlace
 way_for File false = Refused
 way_for Other true = Into
 way_for Other false = Refused
+
+-- the name of a file while it is written, where so many of these names are taken: another one for each number
+pub record IsNameBeside (name : List ℕ) (taken : ℕ) (beside : List ℕ) : Type 0 where
+  pub first : taken ≡ 0 → beside ≡ name ++ codes ".part"
+  pub further : 0 < taken → beside ≡ (name ++ codes ".part") ++ codes "." ++ decimal taken

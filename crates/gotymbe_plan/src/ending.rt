@@ -5,7 +5,8 @@ ghost use Rattle.trace_lines.specs.Appending.{AppendsText};
 ghost use Rattle.trace_lines.specs.Dumps.{failed_status};
 ghost use Rattle.gotymbe_plan.specs.Endings.{stop_ending, IsErrorEnding, dump_ending, HasStatus, stop_status};
 ghost use Rattle.gotymbe_plan.specs.Endings.{IsTold, AppendsLine, AppendsReason, AppendsStop};
-ghost use Rattle.gotymbe_plan.specs.Endings.{start_text, cause_text};
+ghost use Rattle.gotymbe_plan.specs.Endings.{start_text, cause_text, rest_ending, LacksCause, IsPlaceAlone};
+ghost use Rattle.gotymbe_plan.specs.Endings.{IsConflict, AppendsUnfinished};
 
 use crate::numbers::push_grouped;
 use dial9_trace_format::decoder::{DecodeError, DecodeErrorKind};
@@ -27,6 +28,8 @@ pub enum Ending {
     Unread(ErrorKind),
     /// What was made of it could not be written, by this kind of error.
     Unwritten(ErrorKind),
+    /// It ends inside the frame that begins at this place.
+    Unfinished(usize),
     /// It was dumped up to where it stops, with this status; the last line of the dump tells the place.
     Dumped(u8),
 }
@@ -54,6 +57,51 @@ impl Ending {
             }),
         }
     }
+
+    /// That of an input that was read to its end, where a decoder that was fed all of it tells this version, how many
+    /// bytes were read, and how many it was fed.
+    pub fn of_rest(version: Option<u8>, position: usize, fed_len: usize) -> Ending
+        ensures { result ≡ rest_ending version position fed_len }
+    {
+        match version {
+            None => Ending::Stopped(Stop {
+                place: 0,
+                cause: DecodeErrorKind::NoHeader,
+            }),
+            Some(_) if position == fed_len => Ending::Whole,
+            Some(_) => Ending::Unfinished(position),
+        }
+    }
+}
+
+/// Whether the cause by which a file ends is to be looked for in all of its bytes: where they end inside a frame,
+/// where a dump tells the place alone, and at a conflict. Standard input can't be read again.
+pub fn lacks_cause(ending: Ending, name: &str) -> bool
+    ensures { IsTrue result ↔ LacksCause ending name.now }
+{
+    is_place_alone(ending) && name != "-"
+}
+
+// Whether an ending tells a place without its cause, or that after a schema that conflicts.
+fn is_place_alone(ending: Ending) -> bool
+    ensures { IsTrue result ↔ IsPlaceAlone ending }
+{
+    match ending {
+        Ending::Unfinished(_) => true,
+        Ending::Dumped(_) => true,
+        Ending::Stopped(stop) => is_conflict(stop.cause),
+        Ending::Whole => false,
+        Ending::OutOfMemory => false,
+        Ending::Unread(_) => false,
+        Ending::Unwritten(_) => false,
+    }
+}
+
+// Whether a schema conflicts.
+fn is_conflict(cause: DecodeErrorKind) -> bool
+    ensures { IsTrue result ↔ IsConflict cause }
+{
+    matches!(cause, DecodeErrorKind::Conflict(_))
 }
 
 /// The ending of a dump with this status, where these kinds of errors came last from the input and from the output.
@@ -97,6 +145,7 @@ pub fn status_of(ending: Ending) -> u8
                 FAILED
             }
         }
+        Ending::Unfinished(_) => STOPPED,
         Ending::Dumped(status) => status,
     }
 }
@@ -145,6 +194,7 @@ fn is_told(ending: Ending) -> bool
         Ending::Stopped(_) => true,
         Ending::OutOfMemory => true,
         Ending::Unread(_) => true,
+        Ending::Unfinished(_) => true,
         Ending::Dumped(_) => true,
     }
 }
@@ -179,8 +229,18 @@ fn push_reason(out: &mut String, ending: Ending) -> Result<(), AllocError>
         Ending::OutOfMemory => out.push_str("out of memory"),
         Ending::Unread(kind) => push_both(out, "cannot be read: ", error_text(kind)),
         Ending::Unwritten(kind) => push_both(out, "cannot be written: ", error_text(kind)),
+        Ending::Unfinished(place) => push_unfinished(out, place),
         Ending::Dumped(_) => out.push_str("stops where the last line of its dump tells"),
     }
+}
+
+// Appends where the frame begins inside which an input ends.
+fn push_unfinished(out: &mut String, place: usize) -> Result<(), AllocError>
+    ensures { OnOk result
+        (AppendsUnfinished place (string_bytes out.old) (string_bytes out.new)) }
+{
+    out.push_str("ends inside the frame at byte ")?;
+    push_grouped(out, place as u64)
 }
 
 // Appends one text after another.

@@ -1,9 +1,12 @@
-//! What the program `gotymbe` decides: which status, which words, which events, how a file is written and when a file
-//! that grows is read again (docs/TOOLS.md).
+//! What the program `gotymbe` decides: which status, which words, which events and in which order, how a file is
+//! written, when a file that grows is read again, and what is told meanwhile (docs/TOOLS.md).
 #![tactic(auto)]
 
 pub mod ending;
 pub mod filter;
 pub mod following;
+pub mod merging;
 pub mod numbers;
 pub mod output;
+pub mod progress;
+pub mod statistics;

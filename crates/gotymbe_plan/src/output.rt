@@ -1,7 +1,11 @@
 //! How a file is written.
 
-ghost use Rattle.std.specs.Prelude.{◌≡◌};
-ghost use Rattle.gotymbe_plan.specs.Outputs.{way_for};
+ghost use Rattle.std.specs.Prelude.{◌≡◌, ◌++◌, IfOk, codes, string_bytes};
+ghost use Rattle.std.specs.Fmt.{decimal};
+ghost use Rattle.trace_lines.specs.Appending.{AppendsText};
+ghost use Rattle.gotymbe_plan.specs.Outputs.{way_for, IsNameBeside};
+
+use std::alloc::{AllocError, Global};
 
 /// What stands under the name of a file that is to be written.
 #[derive(Clone, Copy, Debug, PartialEq, Eq)]
@@ -37,4 +41,23 @@ pub fn way_of(standing: Standing, force: bool) -> Way
         (Standing::Other, true) => Way::Into,
         (_, false) => Way::Refused,
     }
+}
+
+/// The name under which a file is written meanwhile, where so many of these names are taken. `AllocError` where a
+/// growth was refused.
+pub fn name_beside(alloc: Global, name: &str, taken: u64) -> Result<String, AllocError>
+    ensures { IfOk result (λ beside. IsNameBeside name.now taken (string_bytes beside)) }
+{
+    let mut beside = format!(in alloc; "{name}.part")?;
+    if taken > 0 {
+        push_number(&mut beside, taken)?;
+    }
+    Ok(beside)
+}
+
+// Appends a number after a dot.
+fn push_number(out: &mut String, number: u64) -> Result<(), AllocError>
+    ensures { AppendsText (codes "." ++ decimal number) out.old out.new result }
+{
+    write!(out, ".{number}")
 }

@@ -9,7 +9,8 @@ use Rattle.clap.specs.declared.error.kind.ErrorKind.{ErrorKind}
 use Rattle.clap.specs.declared.error.kind.ErrorKind.TheVariants.{DisplayHelp, DisplayVersion, OutOfMemory}
 use Rattle.gotymbe_words.specs.declared.asked.Asked.{Asked}
 use Rattle.gotymbe_words.specs.declared.asked.Task.{Task}
-use Rattle.gotymbe_words.specs.declared.asked.Task.TheVariants.{Check, Dump, Json, Salvage, Join, Follow}
+use Rattle.gotymbe_words.specs.declared.asked.Task.TheVariants.{Check, Dump, Json, Salvage, Join, Stats}
+use Rattle.gotymbe_words.specs.declared.asked.Task.TheVariants.{Cut, Follow}
 
 -- the name of each task
 abbrev pub task_name : Task → List ℕ
@@ -18,6 +19,8 @@ task_name Dump = codes "dump"
 task_name Json = codes "json"
 task_name Salvage = codes "salvage"
 task_name Join = codes "join"
+task_name Stats = codes "stats"
+task_name Cut = codes "cut"
 task_name Follow = codes "follow"
 
 -- the task of this name, or none has it
@@ -59,8 +62,10 @@ pub record IsAsked (task : Task) (given : ArgMatches) (asked : Asked) : Type 0 w
   pub to : IsNumberOf given (codes "to") asked.to
   pub limit : IsNumberOf given (codes "limit") asked.limit
   pub resolve : IsFlag given (codes "resolve") asked.resolve
+  pub merge : IsFlag given (codes "merge") asked.merge
   pub resync : IsFlag given (codes "resync") asked.resync
   pub idle : IsNumberOf given (codes "idle") asked.idle
+  pub quiet : IsFlag given (codes "quiet") asked.quiet
 
 -- a time, a name or a number of events is said
 abbrev pub Selects : Asked → Type 0

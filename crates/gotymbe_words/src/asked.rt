@@ -20,6 +20,10 @@ pub enum Task {
     Salvage,
     /// Joins traces.
     Join,
+    /// Writes what the events of traces add up to.
+    Stats,
+    /// Cuts a range of times out of a trace.
+    Cut,
     /// Writes the lines of a trace as it grows.
     Follow,
 }
@@ -45,10 +49,14 @@ pub struct Asked<'a> {
     pub limit: Option<u64>,
     /// Whether ids of the pools are resolved.
     pub resolve: bool,
+    /// Whether the events of all files are shown in one order, by their times.
+    pub merge: bool,
     /// Whether saving goes on after a damaged part.
     pub resync: bool,
     /// After so many seconds without growth following ends.
     pub idle: Option<u64>,
+    /// Whether nothing is told of how far reading is.
+    pub quiet: bool,
 }
 
 impl Asked<'_> {
@@ -70,6 +78,8 @@ pub fn task_of(name: &str) -> Option<Task>
         "json" => Some(Task::Json),
         "salvage" => Some(Task::Salvage),
         "join" => Some(Task::Join),
+        "stats" => Some(Task::Stats),
+        "cut" => Some(Task::Cut),
         "follow" => Some(Task::Follow),
         _ => None,
     }
@@ -95,8 +105,10 @@ pub fn what_is_asked<'a>(
         to: number_of(given, "to"),
         limit: number_of(given, "limit"),
         resolve: given.get_flag("resolve"),
+        merge: given.get_flag("merge"),
         resync: given.get_flag("resync"),
         idle: number_of(given, "idle"),
+        quiet: given.get_flag("quiet"),
     })
 }
 

@@ -1,36 +1,56 @@
 //! The words that the program takes.
 
-use clap::{Arg, ArgAction, Command, value_parser};
+use crate::command::options::{file, files, flag, merge, number, quiet, range, selecting, writing};
+use clap::{Arg, Command};
 use std::alloc::{AllocError, Global};
+
+mod options;
 
 const VERSION: &str = "0.1.0, proved with rattle-kit-13b logic dac8208d650f15bf";
 
 /// The whole command. `AllocError` where a growth was refused.
 pub fn command<'a>(alloc: Global) -> Result<Command<'a>, AllocError> {
+    let command = Command::new(alloc, "gotymbe")
+        .version(VERSION)
+        .about("Looks at traces, saves what reads whole of them, and turns them into other forms")
+        .subcommand_required(true);
+    with_writers(alloc, with_readers(alloc, command)?)
+}
+
+// The subcommands that show what traces hold.
+fn with_readers<'a>(alloc: Global, command: Command<'a>) -> Result<Command<'a>, AllocError> {
     let check = check(alloc)?;
     let dump = dump(alloc)?;
     let json = json(alloc)?;
-    let salvage = salvage(alloc)?;
-    let join = join(alloc)?;
-    let follow = follow(alloc)?;
-    Command::new(alloc, "gotymbe")
-        .version(VERSION)
-        .about("Looks at traces, saves what reads whole of them, and turns them into other forms")
-        .subcommand_required(true)
+    let stats = stats(alloc)?;
+    command
         .subcommand(check)?
         .subcommand(dump)?
         .subcommand(json)?
+        .subcommand(stats)
+}
+
+// The subcommands that write traces, and that which follows one.
+fn with_writers<'a>(alloc: Global, command: Command<'a>) -> Result<Command<'a>, AllocError> {
+    let salvage = salvage(alloc)?;
+    let join = join(alloc)?;
+    let cut = cut(alloc)?;
+    let follow = follow(alloc)?;
+    command
         .subcommand(salvage)?
         .subcommand(join)?
+        .subcommand(cut)?
         .subcommand(follow)
 }
 
 fn check<'a>(alloc: Global) -> Result<Command<'a>, AllocError> {
     let files = files(alloc);
+    let quiet = quiet(alloc);
     Command::new(alloc, "check")
         .about("Tells whether traces are whole, and else where and why they stop")
         .after_help("Example:\n  gotymbe check run.trace next.trace")
-        .arg(files)
+        .arg(files)?
+        .arg(quiet)
 }
 
 fn dump<'a>(alloc: Global) -> Result<Command<'a>, AllocError> {
@@ -39,22 +59,35 @@ fn dump<'a>(alloc: Global) -> Result<Command<'a>, AllocError> {
         "resolve",
         "The events alone, with texts and stacks in place of ids",
     );
+    let merge = merge(alloc);
     let dump = Command::new(alloc, "dump")
         .about("Writes the lines of what traces hold")
         .after_help(
             "Examples:\n  gotymbe dump run.trace\n  gotymbe dump --resolve --event Poll --limit 10 run.trace",
         )
-        .arg(resolve)?;
+        .arg(resolve)?
+        .arg(merge)?;
     selecting(alloc, dump)
 }
 
 fn json<'a>(alloc: Global) -> Result<Command<'a>, AllocError> {
+    let merge = merge(alloc);
     let json = Command::new(alloc, "json")
         .about("Writes each event as a line of JSON")
         .after_help(
             "Examples:\n  gotymbe json run.trace\n  gotymbe json --from 1000 --to 2000 -o events.jsonl run.trace",
-        );
+        )
+        .arg(merge)?;
     selecting(alloc, json)
+}
+
+fn stats<'a>(alloc: Global) -> Result<Command<'a>, AllocError> {
+    let stats = Command::new(alloc, "stats")
+        .about("Writes what the events of all traces add up to, by schema")
+        .after_help(
+            "Examples:\n  gotymbe stats run.trace next.trace\n  gotymbe stats --event Poll run.trace",
+        );
+    selecting(alloc, stats)
 }
 
 fn salvage<'a>(alloc: Global) -> Result<Command<'a>, AllocError> {
@@ -63,10 +96,7 @@ fn salvage<'a>(alloc: Global) -> Result<Command<'a>, AllocError> {
         "resync",
         "Go on at the next header from which an event can be read",
     );
-    let file = Arg::new(alloc, "file")
-        .value_name("FILE")
-        .help("The trace, - for standard input")
-        .default_value("-");
+    let file = file(alloc);
     let salvage = Command::new(alloc, "salvage")
         .about("Saves the longest front of a trace that reads whole")
         .after_help(
@@ -86,79 +116,29 @@ fn join<'a>(alloc: Global) -> Result<Command<'a>, AllocError> {
     writing(alloc, join)
 }
 
+fn cut<'a>(alloc: Global) -> Result<Command<'a>, AllocError> {
+    let file = file(alloc);
+    let cut = Command::new(alloc, "cut")
+        .about("Cuts the events of a range of times out of a trace, with all that they stand on")
+        .after_help("Example:\n  gotymbe cut --from 1000 --to 2000 -o part.trace run.trace")
+        .arg(file)?;
+    writing(alloc, range(alloc, cut)?)
+}
+
 fn follow<'a>(alloc: Global) -> Result<Command<'a>, AllocError> {
     let file = Arg::new(alloc, "file")
         .value_name("FILE")
         .help("The trace")
         .required(true);
-    let idle = Arg::new(alloc, "idle")
-        .long("idle")
-        .value_name("SECONDS")
-        .value_parser(value_parser!(u64))
-        .help("End after so many seconds without growth");
+    let idle = number(
+        alloc,
+        "idle",
+        "SECONDS",
+        "End after so many seconds without growth",
+    );
     Command::new(alloc, "follow")
         .about("Writes the lines of a trace as it grows")
         .after_help("Example:\n  gotymbe follow --idle 60 run.trace")
         .arg(file)?
         .arg(idle)
-}
-
-// The options of what shows events.
-fn selecting<'a>(alloc: Global, command: Command<'a>) -> Result<Command<'a>, AllocError> {
-    let files = files(alloc);
-    let from = time(alloc, "from", "No event before this time, in nanoseconds");
-    let to = time(alloc, "to", "No event after this time, in nanoseconds");
-    let event = Arg::new(alloc, "event")
-        .long("event")
-        .value_name("NAME")
-        .action(ArgAction::Append)
-        .help("Events of this name alone (may be given several times)");
-    let limit = Arg::new(alloc, "limit")
-        .short('n')
-        .long("limit")
-        .value_name("N")
-        .value_parser(value_parser!(u64))
-        .help("At most so many events");
-    let command = command
-        .arg(files)?
-        .arg(from)?
-        .arg(to)?
-        .arg(event)?
-        .arg(limit)?;
-    writing(alloc, command)
-}
-
-// The options of what writes.
-fn writing<'a>(alloc: Global, command: Command<'a>) -> Result<Command<'a>, AllocError> {
-    let output = Arg::new(alloc, "output")
-        .short('o')
-        .long("output")
-        .value_name("FILE")
-        .help("Write into this file, which must not be there yet");
-    let force = flag(alloc, "force", "Write in place of a file that is there");
-    command.arg(output)?.arg(force)
-}
-
-fn files<'a>(alloc: Global) -> Arg<'a> {
-    Arg::new(alloc, "file")
-        .value_name("FILE")
-        .action(ArgAction::Append)
-        .num_args(1..)
-        .help("The traces, - for standard input")
-        .default_value("-")
-}
-
-fn time<'a>(alloc: Global, name: &'a str, help: &'a str) -> Arg<'a> {
-    Arg::new(alloc, name)
-        .long(name)
-        .value_name("TIME")
-        .value_parser(value_parser!(u64))
-        .help(help)
-}
-
-fn flag<'a>(alloc: Global, name: &'a str, help: &'a str) -> Arg<'a> {
-    Arg::new(alloc, name)
-        .long(name)
-        .action(ArgAction::SetTrue)
-        .help(help)
 }

@@ -1,0 +1,49 @@
+//! Following a file as it grows.
+
+use crate::follow::{End, Following};
+use crate::input::unread;
+use crate::output::{Noted, standing};
+use crate::pieces::ending_of;
+use crate::tasks::{Call, tell, write};
+use gotymbe_plan::ending::{dump_ending, lacks_cause};
+use gotymbe_plan::output::Standing;
+use std::alloc::AllocError;
+use std::fs::File;
+use std::io;
+use std::rt::{Clock, Files};
+use trace_lines::dump::FAILED;
+use trace_lines::pieces::dump_pieces;
+use trace_values::leb128::Plain;
+
+/// Writes the lines of a file as it grows, anew where it shrank or another one came under its name; what is no file
+/// of bytes, as a pipe, is dumped to its end.
+pub(crate) fn follow(
+    rt: &(impl AllocGlobal + Files<File = File> + Input + Print + Eprint + Clock),
+    call: &Call<'_>,
+) -> Result<u8, AllocError> {
+    let Some(name) = call.asked.files.first() else {
+        return Ok(FAILED);
+    };
+    if standing(rt, name) != Standing::File {
+        return write(rt, call);
+    }
+    'traces: for _ in 0..u64::MAX {
+        let mut input = match Following::open(rt, name, call.asked.idle) {
+            Ok(input) => input,
+            Err(error) => return tell(rt, name, unread(error.kind())),
+        };
+        let mut out = Noted {
+            inner: Plain(io::writer(rt)),
+            error: None,
+        };
+        let status = dump_pieces(rt.alloc(), &mut input, &mut out);
+        let ending = dump_ending(status, input.error, out.error);
+        if input.end == End::Idle || status == FAILED {
+            if lacks_cause(ending, name) {
+                return tell(rt, name, ending_of(rt, call, name));
+            }
+            return tell(rt, name, ending);
+        }
+    }
+    Ok(FAILED)
+}

@@ -1,0 +1,102 @@
+//! Writing traces: what reads whole of them, several joined, and cuts.
+
+use crate::input::{front_ending, read_all};
+use crate::output::Noted;
+use crate::tasks::{Call, read_each, settle, tell};
+use gotymbe_plan::ending::Ending;
+use std::alloc::AllocError;
+use std::fs::File;
+use std::rt::{Clock, Files};
+use trace_cuts::cut::{CutError, send_cut};
+use trace_cuts::range::TimeRange;
+use trace_fronts::joining::join;
+use trace_fronts::pieces::salvage_pieces;
+use trace_fronts::salvaging::{SalvageError, salvage};
+use trace_fronts::whole::Readers;
+use trace_lines::dump::WHOLE;
+use trace_values::leb128::TraceWrite;
+
+/// Saves what reads whole of a file, and tells each gap.
+pub(crate) fn salvage_one<W: TraceWrite + Drop>(
+    rt: &(impl AllocGlobal + Files<File = File> + Input + Eprint + Clock),
+    call: &Call<'_>,
+    name: &str,
+    out: &mut Noted<W>,
+) -> Result<Ending, AllocError> {
+    let bytes = match read_all(rt, call, name) {
+        Ok(bytes) => bytes,
+        Err(ending) => return Ok(ending),
+    };
+    if !call.asked.resync {
+        return Ok(match salvage(rt.alloc(), &bytes, Readers::Owned, out) {
+            Ok(front) => Ending::of_stop(front.stop),
+            Err(error) => unsaved(error),
+        });
+    }
+    match salvage_pieces(rt.alloc(), &bytes, Readers::Owned, out) {
+        Ok(gaps) => {
+            let mut last = Ending::Whole;
+            for gap in gaps.as_slice() {
+                let _ = tell(rt, name, last)?;
+                last = Ending::Stopped(gap.stop);
+            }
+            Ok(last)
+        }
+        Err(error) => Ok(unsaved(error)),
+    }
+}
+
+/// Cuts a range of times out of a file.
+pub(crate) fn cut_one<W: TraceWrite + Drop>(
+    rt: &(impl AllocGlobal + Files<File = File> + Input + Eprint + Clock),
+    call: &Call<'_>,
+    name: &str,
+    out: &mut Noted<W>,
+) -> Ending {
+    let bytes = match read_all(rt, call, name) {
+        Ok(bytes) => bytes,
+        Err(ending) => return ending,
+    };
+    let (from, to) = call.filter().bounds();
+    match send_cut(rt.alloc(), &bytes, TimeRange { from, to }, out) {
+        Ok(_) => front_ending(rt.alloc(), &bytes, Readers::Owned),
+        Err(CutError::OutOfMemory) => Ending::OutOfMemory,
+        Err(CutError::Writer(kind)) => Ending::Unwritten(kind),
+    }
+}
+
+/// Joins the whole fronts of files.
+pub(crate) fn join_all<W: TraceWrite + Drop>(
+    rt: &(impl AllocGlobal + Files<File = File> + Input + Eprint + Clock),
+    call: &Call<'_>,
+    written: &str,
+    out: &mut Noted<W>,
+) -> Result<u8, AllocError> {
+    let traces = match read_each(rt, call)? {
+        Ok(traces) => traces,
+        Err(status) => return Ok(status),
+    };
+    let mut inputs: Vec<&[u8]> = Vec::new(rt.alloc());
+    for trace in traces.as_slice() {
+        inputs.push(trace.as_slice())?;
+    }
+    let fronts = match join(rt.alloc(), inputs.as_slice(), Readers::Owned, out) {
+        Ok(fronts) => fronts,
+        Err(error) => return tell(rt, written, unsaved(error)),
+    };
+    if let Err(error) = out.settle() {
+        return tell(rt, written, Ending::Unwritten(error.kind()));
+    }
+    let mut status = WHOLE;
+    for (name, front) in call.asked.files.iter().zip(fronts.as_slice()) {
+        status = status.max(tell(rt, name, Ending::of_stop(front.stop))?);
+    }
+    Ok(status)
+}
+
+fn unsaved(error: SalvageError) -> Ending {
+    match error {
+        SalvageError::OutOfMemory => Ending::OutOfMemory,
+        SalvageError::Writer(kind) => Ending::Unwritten(kind),
+    }
+}
