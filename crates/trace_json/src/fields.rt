@@ -11,7 +11,6 @@ use crate::value::put_value;
 use dial9_trace_format::decoder::RawEvent;
 use json::Writer;
 use std::alloc::{AllocError, Global};
-use trace_values::tri;
 use trace_wire::schema::FieldDef;
 
 /// Writes the members of an event's fields, one after another: each value under its name, and where the schema has no
@@ -30,8 +29,8 @@ pub(crate) fn put_fields(
     let mut names = event.schema.fields();
     'fields: for value in event.fields {
         let (name, others) = first_name(names);
-        tri!(out.key(name));
-        tri!(put_value(alloc, out, event.string_pool, event.stack_pool, value));
+        out.key(name)?;
+        put_value(alloc, out, event.string_pool, event.stack_pool, value)?;
         names = others;
     }
     Ok(())

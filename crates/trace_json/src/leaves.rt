@@ -42,7 +42,7 @@ fn put_special(alloc: Global, out: &mut Writer, bits: u64) -> Result<(), AllocEr
     ensures tokens { Puts (string (special_text bits)) out.old out.new result }
     ensures before { out.new.before ≡ out.old.before }
 {
-    let text = tri!(special_text(alloc, bits));
+    let text = special_text(alloc, bits)?;
     out.string(text.as_str())
 }
 
@@ -135,7 +135,7 @@ pub(crate) fn put_stack_ref(
     ensures tokens { Puts (stack_json (stack_view frames.now)) out.old out.new result }
     ensures before { out.new.before ≡ out.old.before }
 {
-    let addresses: Vec<u64> = tri!(frames.iter().collect(alloc));
+    let addresses: Vec<u64> = frames.iter().collect(alloc)?;
     put_stack(alloc, out, addresses.as_slice())
 }
 
@@ -144,8 +144,8 @@ fn put_stack(alloc: Global, out: &mut Writer, addresses: &[u64]) -> Result<(), A
     ensures tokens { Puts (stack_json addresses.now) out.old out.new result }
     ensures before { out.new.before ≡ out.old.before }
 {
-    tri!(out.begin_array());
-    tri!(put_addresses(alloc, out, addresses));
+    out.begin_array()?;
+    put_addresses(alloc, out, addresses)?;
     out.end_array()
 }
 
@@ -156,7 +156,7 @@ fn put_addresses(alloc: Global, out: &mut Writer, addresses: &[u64]) -> Result<(
     ensures before { out.new.before ≡ out.old.before }
 {
     for address in addresses {
-        tri!(put_address(alloc, out, *address));
+        put_address(alloc, out, *address)?;
     }
     Ok(())
 }
@@ -165,6 +165,6 @@ fn put_address(alloc: Global, out: &mut Writer, address: u64) -> Result<(), Allo
     ensures tokens { Puts (address_json address) out.old out.new result }
     ensures before { out.new.before ≡ out.old.before }
 {
-    let text = tri!(format!(in alloc; "0x{address:x}"));
+    let text = format!(in alloc; "0x{address:x}")?;
     out.string(text.as_str())
 }

@@ -33,7 +33,7 @@ pub fn value_text(
         text.items) }
 {
     let mut writer = Writer::new(Vec::new(alloc));
-    tri!(put_value(alloc, &mut writer, strings, stacks, value));
+    put_value(alloc, &mut writer, strings, stacks, value)?;
     Ok(writer.into_inner())
 }
 
@@ -98,8 +98,8 @@ fn put_list(
         (list (values_to_items (ref_views items.now)))) out.old out.new result }
     ensures before { out.new.before ≡ out.old.before }
 {
-    tri!(out.begin_array());
-    tri!(put_items(alloc, out, strings, stacks, items));
+    out.begin_array()?;
+    put_items(alloc, out, strings, stacks, items)?;
     out.end_array()
 }
 
@@ -116,8 +116,8 @@ fn put_map(
         (map (values_to_pairs (ref_pair_views pairs.now)))) out.old out.new result }
     ensures before { out.new.before ≡ out.old.before }
 {
-    tri!(out.begin_array());
-    tri!(put_pairs(alloc, out, strings, stacks, pairs));
+    out.begin_array()?;
+    put_pairs(alloc, out, strings, stacks, pairs)?;
     out.end_array()
 }
 
@@ -135,7 +135,7 @@ fn put_items(
     ensures before { out.new.before ≡ out.old.before }
 {
     'items: for item in items {
-        tri!(put_value(alloc, out, strings, stacks, item));
+        put_value(alloc, out, strings, stacks, item)?;
     }
     Ok(())
 }

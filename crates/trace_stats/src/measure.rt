@@ -10,6 +10,28 @@ pub(crate) use owned::measure_of_owned;
 use trace_values::types::FieldValueRef;
 use trace_wire::pools::{StackPool, StringPool};
 
+// What is counted of a value of a type, whose stacks have so many addresses.
+macro_rules! measure_of {
+    ($values:ident, $value:expr, $strings:expr, $stacks:expr, |$frames:ident| $count:expr) => {
+        match $value {
+            $values::I64(number) => measure_of_integer(*number),
+            $values::Varint(number) => Measure::Natural(*number),
+            $values::String(text) => Measure::Length(text.len() as u64),
+            $values::Bytes(bytes) => Measure::Length(bytes.len() as u64),
+            $values::StackFrames($frames) => Measure::Length($count),
+            $values::PooledString(id) => match $strings.get(*id) {
+                Some(text) => Measure::Length(text.len() as u64),
+                None => Measure::Nothing,
+            },
+            $values::PooledStackFrames(id) => match $stacks.get(*id) {
+                Some(addresses) => Measure::Length(addresses.len() as u64),
+                None => Measure::Nothing,
+            },
+            _ => Measure::Nothing,
+        }
+    };
+}
+
 mod owned;
 
 /// What is counted of a value.
@@ -33,22 +55,7 @@ pub(crate) fn measure_of(
 ) -> Measure
     ensures { result ≡ measure_of (in_full (as_pools strings.now stacks.now) (ref_view value.now)) }
 {
-    match value {
-        FieldValueRef::I64(number) => measure_of_integer(*number),
-        FieldValueRef::Varint(number) => Measure::Natural(*number),
-        FieldValueRef::String(text) => Measure::Length(text.len() as u64),
-        FieldValueRef::Bytes(bytes) => Measure::Length(bytes.len() as u64),
-        FieldValueRef::StackFrames(frames) => Measure::Length(u64::from(frames.count())),
-        FieldValueRef::PooledString(id) => match strings.get(*id) {
-            Some(text) => Measure::Length(text.len() as u64),
-            None => Measure::Nothing,
-        },
-        FieldValueRef::PooledStackFrames(id) => match stacks.get(*id) {
-            Some(addresses) => Measure::Length(addresses.len() as u64),
-            None => Measure::Nothing,
-        },
-        _ => Measure::Nothing,
-    }
+    measure_of!(FieldValueRef, value, strings, stacks, |frames| u64::from(frames.count()))
 }
 
 fn measure_of_integer(number: i64) -> Measure

@@ -13,7 +13,6 @@ use crate::measure::measure_of;
 use crate::summary::Summary;
 use dial9_trace_format::decoder::RawEvent;
 use std::alloc::{AllocError, Global};
-use trace_values::tri;
 use trace_wire::schema::SchemaEntry;
 
 mod owned;
@@ -33,8 +32,8 @@ impl SchemaStats {
         ensures schema { IfOk result (λ s. s.schema ≡ bare schema.now) }
         ensures stats { IfOk result (IsSchemaOf []) }
     {
-        let fields = tri!(of_no_values(alloc, schema.fields().len()));
-        let schema = tri!(SchemaEntry::new(alloc, schema.name(), schema.fields()));
+        let fields = of_no_values(alloc, schema.fields().len())?;
+        let schema = SchemaEntry::new(alloc, schema.name(), schema.fields())?;
         Ok(SchemaStats {
             schema,
             times: Summary::new(),
@@ -53,8 +52,8 @@ impl SchemaStats {
         ensures full { OnErr result
             ((es : List Counted) → IsSchemaOf es self.old → most_counted ≤ length es) }
     {
-        tri!(self.times.add(event.timestamp_ns));
-        tri!(self.bytes.add(bytes));
+        self.times.add(event.timestamp_ns)?;
+        self.bytes.add(bytes)?;
         add_values(&mut self.fields, event)
     }
 
@@ -101,7 +100,7 @@ fn of_no_values(alloc: Global, count: usize) -> Result<Vec<FieldStats>, AllocErr
 {
     let mut fields = Vec::new(alloc);
     'fields: for _ in 0..count {
-        tri!(fields.reserve(1));
+        fields.reserve(1)?;
         fields.push_reserved(FieldStats::new());
     }
     Ok(fields)
@@ -114,7 +113,7 @@ fn add_values(fields: &mut Vec<FieldStats>, event: &RawEvent<'_, '_>) -> Result<
     ensures full { OnErr result (AreFull fields.old.items) }
 {
     'fields: for index in 0..fields.len() {
-        tri!(add_value(fields, event, index));
+        add_value(fields, event, index)?;
     }
     Ok(())
 }

@@ -15,7 +15,6 @@ use crate::schema::SchemaStats;
 use dial9_trace_format::decoder::RawEvent;
 use std::alloc::{AllocError, Global};
 use thiserror::Error;
-use trace_values::tri;
 use trace_wire::schema::{SchemaEntry, WireTypeId};
 
 // How many places of schemas are looked at first, by wire id.
@@ -30,6 +29,16 @@ pub enum StatsError {
     /// 2^64 - 1 events were counted.
     #[error("too many to count")]
     Full,
+}
+
+impl From<AllocError> for StatsError {
+    ghost use Rattle.trace_stats.specs.declared.trace.StatsError.TheVariants.{OutOfMemory};
+
+    ghost from_gives = { λ _ e. e ≡ OutOfMemory };
+
+    fn from(_: AllocError) -> StatsError {
+        StatsError::OutOfMemory
+    }
 }
 
 /// What the events of a trace add up to, by schema. Schemas of one name with the same fields are one, whatever their
@@ -62,10 +71,8 @@ impl TraceStats {
             → AreStatsOf (es ++ counted (shown_event event.now) bytes ∷ []) self.new) }
         ensures refused { IfErr result (RefusesEvent self.old self.new) }
     {
-        match self.place_for(event.type_id, event.schema) {
-            Ok(place) => answer_of(self.schemas[place].add(event, bytes)),
-            Err(_) => Err(StatsError::OutOfMemory),
-        }
+        let place = self.place_for(event.type_id, event.schema)?;
+        answer_of(self.schemas[place].add(event, bytes))
     }
 
     /// Counts an event whose values own their memory, as `add` does.
@@ -75,10 +82,8 @@ impl TraceStats {
             → AreStatsOf (es ++ counted (owned_event event.now) bytes ∷ []) self.new) }
         ensures refused { IfErr result (RefusesEvent self.old self.new) }
     {
-        match self.place_for(event.type_id, event.schema) {
-            Ok(place) => answer_of(self.schemas[place].add_owned(event, bytes)),
-            Err(_) => Err(StatsError::OutOfMemory),
-        }
+        let place = self.place_for(event.type_id, event.schema)?;
+        answer_of(self.schemas[place].add_owned(event, bytes))
     }
 
     /// What is kept of each schema that has events, in the order of their first events.
@@ -101,7 +106,7 @@ impl TraceStats {
                 Ok(place)
             }
             None => {
-                let place = tri!(self.put_last(schema));
+                let place = self.put_last(schema)?;
                 self.guesses[guess] = place;
                 Ok(place)
             }
@@ -116,8 +121,8 @@ impl TraceStats {
         ensures same { OnErr result (self.new.schemas.items ≡ self.old.schemas.items) }
     {
         let place = self.schemas.len();
-        tri!(self.schemas.reserve(1));
-        let stats = tri!(SchemaStats::new(self.alloc, schema));
+        self.schemas.reserve(1)?;
+        let stats = SchemaStats::new(self.alloc, schema)?;
         self.schemas.push_reserved(stats);
         Ok(place)
     }

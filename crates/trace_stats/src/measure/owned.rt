@@ -18,20 +18,5 @@ pub(crate) fn measure_of_owned(
 ) -> Measure
     ensures { result ≡ measure_of (in_full (as_pools strings.now stacks.now) (view value.now)) }
 {
-    match value {
-        FieldValue::I64(number) => measure_of_integer(*number),
-        FieldValue::Varint(number) => Measure::Natural(*number),
-        FieldValue::String(text) => Measure::Length(text.len() as u64),
-        FieldValue::Bytes(bytes) => Measure::Length(bytes.len() as u64),
-        FieldValue::StackFrames(frames) => Measure::Length(frames.as_slice().len() as u64),
-        FieldValue::PooledString(id) => match strings.get(*id) {
-            Some(text) => Measure::Length(text.len() as u64),
-            None => Measure::Nothing,
-        },
-        FieldValue::PooledStackFrames(id) => match stacks.get(*id) {
-            Some(addresses) => Measure::Length(addresses.len() as u64),
-            None => Measure::Nothing,
-        },
-        _ => Measure::Nothing,
-    }
+    measure_of!(FieldValue, value, strings, stacks, |frames| frames.as_slice().len() as u64)
 }

@@ -11,7 +11,6 @@ use crate::field::FieldStats;
 use crate::full::Full;
 use crate::measure::measure_of_owned;
 use crate::schema::SchemaStats;
-use trace_values::tri;
 
 impl SchemaStats {
     /// Counts an event whose values own their memory, as `add` does.
@@ -23,8 +22,8 @@ impl SchemaStats {
         ensures full { OnErr result
             ((es : List Counted) → IsSchemaOf es self.old → most_counted ≤ length es) }
     {
-        tri!(self.times.add(event.timestamp_ns));
-        tri!(self.bytes.add(bytes));
+        self.times.add(event.timestamp_ns)?;
+        self.bytes.add(bytes)?;
         add_owned_values(&mut self.fields, event)
     }
 }
@@ -36,7 +35,7 @@ fn add_owned_values(fields: &mut Vec<FieldStats>, event: &OwnedEvent<'_>) -> Res
     ensures full { OnErr result (AreFull fields.old.items) }
 {
     'fields: for index in 0..fields.len() {
-        tri!(add_owned_value(fields, event, index));
+        add_owned_value(fields, event, index)?;
     }
     Ok(())
 }

@@ -28,8 +28,8 @@ fields-preserved c =
             is = c.value-item.is;
           }) (record { rest = c.fields.invariant.names; named = c.first_name.ensures.name })
           c.fields.invariant.tokens
-          c.in-Ok-tri.ensures.ok c.in-Ok-tri-2.ensures.tokens;
-      before = c.in-Ok-tri-2.ensures.before ∙ c.in-Ok-tri.ensures.room.0 ∙ c.fields.invariant.before;
+          c.in_ok-key.ensures.ok c.in_ok-put_value.ensures.tokens;
+      before = c.in_ok-put_value.ensures.before ∙ c.in_ok-key.ensures.room.0 ∙ c.fields.invariant.before;
     }
 
 pub returns : goal.returns

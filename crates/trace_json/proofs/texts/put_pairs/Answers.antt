@@ -31,9 +31,9 @@ pairs-preserved c =
       front = c.pairs.invariant.front ++ one ∷ [];
       left = one_less (λ y. ((y.0.0.now, y.0.1.now), y.1.now)) c.args.pairs.now _ _ _ _ c.pairs-test.true
           c.text_pair_at.ensures c.unwrap.ensures c.pairs.invariant.left;
-      tokens = c.in-Ok-tri.ensures.tokens ∙ ap (λ (t : List Token). t ++ shown one) c.pairs.invariant.tokens
+      tokens = c.in_ok-put_pair.ensures.tokens ∙ ap (λ (t : List Token). t ++ shown one) c.pairs.invariant.tokens
           ∙ flat_map_more shown c.args.out.now.tokens c.pairs.invariant.front one;
-      before = c.in-Ok-tri.ensures.before ∙ c.pairs.invariant.before;
+      before = c.in_ok-put_pair.ensures.before ∙ c.pairs.invariant.before;
     }
 
 pub returns : goal.returns

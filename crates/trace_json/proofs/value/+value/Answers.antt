@@ -9,19 +9,19 @@ use Rattle.trace_json.proofs.OneMore.{all_stand, item_stands, pair_stands_in}
 use Rattle.trace_json.proofs.KindsPut.{map_seen}
 use Rattle.trace_json.proofs.value.+value.Goals as goal
 
-pub put_list-returns-3-clause-tokens : goal.put_list-returns-3-clause-tokens
-put_list-returns-3-clause-tokens t c =
+pub put_list-returns-clause-tokens : goal.put_list-returns-clause-tokens
+put_list-returns-clause-tokens t c =
     list_stands c.end_array.result
     (AreItemsJson (as_pools c.args.strings.now c.args.stacks.now) (values_to_items (ref_views c.args.items.now)))
     c.args.out.now.tokens c.begin_array.new.self.tokens c.put_items.new.out.tokens c.end_array.new.self.tokens
-    c.in-Ok-tri.ensures.ok c.in-Ok-tri-2.ensures.tokens c.end_array.ensures.ok
+    c.in_ok-begin_array.ensures.ok c.in_ok-put_items.ensures.tokens c.end_array.ensures.ok
 
-pub put_map-returns-3-clause-tokens : goal.put_map-returns-3-clause-tokens
-put_map-returns-3-clause-tokens t c =
+pub put_map-returns-clause-tokens : goal.put_map-returns-clause-tokens
+put_map-returns-clause-tokens t c =
     list_stands c.end_array.result
     (ArePairsJson (as_pools c.args.strings.now c.args.stacks.now) (values_to_pairs (ref_pair_views c.args.pairs.now)))
     c.args.out.now.tokens c.begin_array.new.self.tokens c.put_pairs.new.out.tokens c.end_array.new.self.tokens
-    c.in-Ok-tri.ensures.ok c.in-Ok-tri-2.ensures.tokens c.end_array.ensures.ok
+    c.in_ok-begin_array.ensures.ok c.in_ok-put_pairs.ensures.tokens c.end_array.ensures.ok
 
 pub put_items-items-init : goal.put_items-items-init
 put_items-items-init t c = record {
@@ -32,8 +32,8 @@ put_items-items-init t c = record {
 pub put_items-items-preserved : goal.put_items-items-preserved
 put_items-items-preserved t c = record {
   tokens = item_stands (as_pools c.args.strings.now c.args.stacks.now) ref_view c.args.items.now c.items.item-index
-      _ c.items-test.true c.item-item.is c.items.invariant.tokens c.in-Ok-tri.ensures.tokens;
-  before = c.in-Ok-tri.ensures.before ∙ c.items.invariant.before;
+      _ c.items-test.true c.item-item.is c.items.invariant.tokens c.in_ok-put_value.ensures.tokens;
+  before = c.in_ok-put_value.ensures.before ∙ c.items.invariant.before;
 }
 
 pub put_items-returns-clause-tokens : goal.put_items-returns-clause-tokens

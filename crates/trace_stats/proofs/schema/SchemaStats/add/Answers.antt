@@ -4,7 +4,7 @@ use Rattle.trace_stats.specs.Events.{counted}
 use Rattle.trace_stats.proofs.SchemaLemmas.{event_added}
 use Rattle.trace_stats.proofs.schema.SchemaStats.add.Goals as goal
 
-pub returns-3-clause-added : goal.returns-3-clause-added
-returns-3-clause-added c =
+pub returns-clause-added : goal.returns-clause-added
+returns-clause-added c =
     event_added c.add_values.result (counted (shown_event c.args.event.now) c.args.bytes) c.args.self.now _ refl
-    c.in-Ok-tri.ensures.added c.in-Ok-tri-2.ensures.added c.add_values.ensures.added
+    c.in_ok-add.ensures.added c.in_ok-add-2.ensures.added c.add_values.ensures.added

@@ -1,5 +1,5 @@
 use Rattle.std.proofs.Common.{◌≡◌, ◌<◌, ◌≤◌, length, arith, rules}
-use Rattle.trace_stats.specs.parts.Events.{IsFullAt}
+use Rattle.std.proofs.lemmas.Result.{err_from_is_err_and}
 use Rattle.trace_stats.proofs.SchemaLemmas.{none_below, one_below, all_added, fields_full}
 use Rattle.trace_stats.proofs.schema.owned.add_owned_values.Goals as goal
 
@@ -8,7 +8,8 @@ fields-init c = none_below _ _
 
 pub fields-preserved : goal.fields-preserved
 fields-preserved c =
-    one_below c.fields.index _ _ _ _ c.fields.invariant c.add_owned_value.ensures.count c.in-Ok-tri.ensures.added
+    one_below c.fields.index _ _ _ _ c.fields.invariant c.add_owned_value.ensures.count
+    c.in_ok-add_owned_value.ensures.added
 
 pub returns-clause-added : goal.returns-clause-added
 returns-clause-added c =
@@ -16,9 +17,9 @@ returns-clause-added c =
     let le : length c.args.fields.now.items ≤ c.fields.index = omega (arith, n, c.fields-test.false) in
     all_added _ _ _ _ le c.fields.invariant
 
-pub returns-in-fields-clause-full : goal.returns-in-fields-clause-full
-returns-in-fields-clause-full c n es h =
+pub returns-in_err-add_owned_value-clause-full : goal.returns-in_err-add_owned_value-clause-full
+returns-in_err-add_owned_value-clause-full c =
     let many : c.len-index-end.result ≡ length c.args.fields.now.items = search rules in
     let lt : c.fields.index < length c.args.fields.now.items = omega (arith, many, c.fields-test.true) in
-    let full : IsFullAt c.fields.index c.fields.fields.items = search rules in
-    fields_full c.fields.index n _ es _ _ lt c.fields.invariant full h
+    let p = err_from_is_err_and c.from_residual.result c.from_residual.ensures.1 in
+    rw p.1 (λ n es h. fields_full c.fields.index n _ es _ _ lt c.fields.invariant c.in_err-add_owned_value.ensures.full h)
