@@ -13,7 +13,6 @@ use std::alloc::{AllocError, Global};
 use std::io::ErrorKind;
 use thiserror::Error;
 use trace_values::leb128::{TraceWrite, send_all};
-use trace_values::tri;
 use trace_wire::codec::tags::HEADER_LEN;
 use trace_wire::schema::WireTypeId;
 
@@ -73,8 +72,8 @@ fn cut_after_header(alloc: Global, bytes: &[u8], range: TimeRange) -> Result<Cut
     ensures { IfOk result (IsCut range bytes.now) }
 {
     let (header, frames) = bytes.split_at(HEADER_LEN);
-    let mut copying = tri!(Copying::new(alloc, header, frames));
-    let conflict = tri!(copying.copy_all(range));
+    let mut copying = Copying::new(alloc, header, frames)?;
+    let conflict = copying.copy_all(range)?;
     let (kept, rest) = copying.into_parts();
     Ok(Cut {
         bytes: kept,

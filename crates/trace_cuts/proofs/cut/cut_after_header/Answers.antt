@@ -10,14 +10,14 @@ overflow_sub-result c =
     omega (
       arith,
       ap length c.into_parts-kept.ensures.rest,
-      rest_inside c.args.range c.args.bytes.now _ _ _ _ _ c.split_at.ensures.back c.in-Ok-tri.ensures
-          c.in-Ok-tri-conflict.ensures,
+      rest_inside c.args.range c.args.bytes.now _ _ _ _ _ c.split_at.ensures.back c.in_ok-copying.ensures
+          c.in_ok-conflict.ensures,
     )
 
-pub returns-3 : goal.returns-3
-returns-3 c =
+pub returns : goal.returns
+returns c =
     whole_cut c.args.range c.args.bytes.now _ _ c.requires.1 (c.split_at.ensures.front, c.split_at.ensures.back)
-    c.in-Ok-tri.ensures c.in-Ok-tri-conflict.ensures (
+    c.in_ok-copying.ensures c.in_ok-conflict.ensures (
       c.into_parts-kept.ensures.kept,
       ap (λ (l : List ℕ). length c.args.bytes.now - length l) c.into_parts-kept.ensures.rest,
     )

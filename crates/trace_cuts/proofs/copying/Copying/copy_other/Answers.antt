@@ -9,10 +9,10 @@ keep-requires c =
     other_shorter c.args.self.now.rest.now c.args.after.now
     (frame_by string_ref_of stack_ref_of c.args.frame.now) c.requires
 
-pub returns-in-Ok-tri : goal.returns-in-Ok-tri
-returns-in-Ok-tri c =
+pub returns-in_ok-keep-in-Ok-None : goal.returns-in_ok-keep-in-Ok-None
+returns-in_ok-keep-in-Ok-None c =
     other_copied string_ref_of stack_ref_of c.args.frame.now c.args.self.now _ c.requires
-    (rw c.in-Ok-None.field-0-is at c.in-Ok-None.ensures.ok) refl refl c.in-Ok-tri.ensures
+    (rw c.in-Ok-None.field-0-is at c.in-Ok-None.ensures.ok) refl refl c.in_ok-keep-in-Ok-None.ensures
 
 pub returns-in-Ok-Some : goal.returns-in-Ok-Some
 returns-in-Ok-Some c =

@@ -22,5 +22,5 @@ returns-in_err-add_owned_value-clause-full c =
     let many : c.len-index-end.result ≡ length c.args.fields.now.items = search rules in
     let lt : c.fields.index < length c.args.fields.now.items = omega (arith, many, c.fields-test.true) in
     let p = err_from_is_err_and c.from_residual.result c.from_residual.ensures.1 in
-    rw p.1
-    (λ n es h. fields_full c.fields.index n _ es _ _ lt c.fields.invariant c.in_err-add_owned_value.ensures.full h)
+    rw p.1 (λ n es h. fields_full c.fields.index n _ es _ _ lt c.fields.invariant
+    c.in_err-add_owned_value.ensures.full h)
