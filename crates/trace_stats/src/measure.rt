@@ -55,7 +55,13 @@ pub(crate) fn measure_of(
 ) -> Measure
     ensures { result ≡ measure_of (in_full (as_pools strings.now stacks.now) (ref_view value.now)) }
 {
-    measure_of!(FieldValueRef, value, strings, stacks, |frames| u64::from(frames.count()))
+    measure_of!(
+        FieldValueRef,
+        value,
+        strings,
+        stacks,
+        |frames| u64::from(frames.count())
+    )
 }
 
 fn measure_of_integer(number: i64) -> Measure

@@ -18,5 +18,11 @@ pub(crate) fn measure_of_owned(
 ) -> Measure
     ensures { result ≡ measure_of (in_full (as_pools strings.now stacks.now) (view value.now)) }
 {
-    measure_of!(FieldValue, value, strings, stacks, |frames| frames.as_slice().len() as u64)
+    measure_of!(
+        FieldValue,
+        value,
+        strings,
+        stacks,
+        |frames| frames.as_slice().len() as u64
+    )
 }
