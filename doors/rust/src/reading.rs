@@ -144,6 +144,15 @@ impl<'a> Line<'a> {
         Some(all)
     }
 
+    fn pairs<T>(&mut self, one: fn(&mut Self) -> Option<T>) -> Option<Vec<(T, T)>> {
+        self.takes("{");
+        self.many("}", |line| {
+            let key = one(line)?;
+            line.takes("=");
+            Some((key, one(line)?))
+        })
+    }
+
     fn value(&mut self) -> Option<ReadValue> {
         if self.takes("None") {
             return Some(ReadValue::Absent);
@@ -161,26 +170,12 @@ impl<'a> Line<'a> {
                 self.takes("[");
                 ReadValue::Stack(self.many("]", Line::address)?)
             }
-            "StringMap" => {
-                self.takes("{");
-                ReadValue::Texts(self.many("}", |line| {
-                    let key = line.text()?;
-                    line.takes("=");
-                    Some((key, line.text()?))
-                })?)
-            }
+            "StringMap" => ReadValue::Texts(self.pairs(Line::text)?),
             "List" => {
                 self.takes("[");
                 ReadValue::List(self.many("]", Line::value)?)
             }
-            "Map" => {
-                self.takes("{");
-                ReadValue::Map(self.many("}", |line| {
-                    let key = line.value()?;
-                    line.takes("=");
-                    Some((key, line.value()?))
-                })?)
-            }
+            "Map" => ReadValue::Map(self.pairs(Line::value)?),
             _ => return None,
         })
     }
