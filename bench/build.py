@@ -1,5 +1,5 @@
 #!/usr/bin/env python3
-"""Builds the benchmark: the library's side, as two proved static libraries, and the driver over both.
+"""Builds the benchmark: the library's side, as three proved static libraries, and the driver over both.
 
 build.py ORIGINAL FOLDER ORIGINAL is the folder of the original's package, with its Cargo.toml; FOLDER is where all is
 built. Run again after a change of the library or of the workloads: what is unchanged is not proved again. """
@@ -11,7 +11,8 @@ import sys
 BENCH = os.path.dirname(os.path.abspath(__file__))
 TOP = os.path.dirname(BENCH)
 CRATES = ["trace_tables", "trace_values", "trace_wire", "trace_writer", "dial9_trace_format"]
-SIDES = {"bench_w": "trace_values trace_wire trace_writer", "bench_d": "dial9_trace_format"}
+SIDES = {"bench_w": "trace_values trace_wire trace_writer", "bench_d": "dial9_trace_format",
+         "bench_x": "trace_values trace_writer dial9_trace_format"}
 
 
 def copy_crate(name, port):

@@ -13,9 +13,13 @@ OPERATORS = {"=": operator.eq, "!=": operator.ne, "<": operator.lt, "<=": operat
              ">=": operator.ge}
 
 
-def kind_of(name):
-    plain = name.removeprefix("Optional").removeprefix("Pooled").removeprefix("Dynamic")
-    return "Varint" if plain in ("U8", "U16", "U32") else plain
+KINDS = dict(enumerate("I64 F64 Bool String Bytes StackFrames String StackFrames Varint StringMap Varint Varint Varint "
+                       "List Map".split(), 1))
+
+
+def kind_of(tag):
+    """The kind of the values of a field type, by its tag."""
+    return KINDS[tag & 0x7F]
 
 
 def is_number(kind):
@@ -176,7 +180,7 @@ class Model:
             case "StringMap":
                 return any(text in strings[it].lower() for it in value)
             case "List" | "Map":
-                return any(self.holds(text, number, *it) for it in zip(value[::2], value[1::2]))
+                return any(self.holds(text, number, kind_of(tag), it) for tag, it in zip(value[::2], value[1::2]))
             case "Bool":
                 return False
         return value == text if isinstance(value, str) else number is not None and value == number
@@ -206,7 +210,9 @@ class Model:
             return ", ".join(items[:200] + [f"and {len(items) - 200:,} more"] * (len(items) > 200))
 
         def inner(pair):
-            return json.dumps(strings[pair[1]], ensure_ascii=False) if pair[0] == "String" else self.text(*pair)
+            kind, value = kind_of(pair[0]), pair[1]
+            is_text = kind == "String" and isinstance(value, int)
+            return json.dumps(strings[value], ensure_ascii=False) if is_text else self.text(kind, value)
 
         if value is None:
             return "none"

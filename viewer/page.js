@@ -27,9 +27,16 @@ function make(name, properties, ...children) {
 
 // ---- The trace ----------------------------------------------------------------------------------------------------
 
+// The names of the field types, by tag. An optional type has this bit too.
+const TYPES = ("None I64 F64 Bool String Bytes PooledStackFrames PooledString StackFrames Varint StringMap " +
+  "U8 U16 U32 DynamicList DynamicMap").split(" ");
+const OPTIONAL = 0x80;
+
+const typeName = (tag) => `${tag & OPTIONAL ? "Optional" : ""}${TYPES[tag & ~OPTIONAL]}`;
+
 // The kind of the values of a field type.
-function kindOf(type) {
-  const plain = type.replace(/^Optional/, "").replace(/^Pooled/, "").replace(/^Dynamic/, "");
+function kindOf(tag) {
+  const plain = TYPES[tag & ~OPTIONAL].replace(/^Pooled/, "").replace(/^Dynamic/, "");
   return /^U\d+$/.test(plain) ? "Varint" : plain;
 }
 
@@ -37,7 +44,8 @@ const isWhole = (kind) => kind === "Varint" || kind === "I64";
 const isNumber = (kind) => isWhole(kind) || kind === "F64";
 
 function makeSchema(schema, index) {
-  const fields = schema.fields.map((field, at) => ({ ...field, at, kind: kindOf(field.type) }));
+  const fields = schema.fields.map((field, at) => (
+    { ...field, at, type: typeName(field.type), kind: kindOf(field.type) }));
   const { begin, end, duration } = schema.roles;
   return {
     ...schema,
@@ -348,7 +356,8 @@ function plainText(kind, value) {
 }
 
 const quoted = (string) => JSON.stringify(trace.strings[string]);
-const innerText = ([kind, value]) => (kind === "String" ? quoted(value) : plainText(kind, value));
+const innerText = ([tag, value]) =>
+  (kindOf(tag) === "String" && typeof value === "number" ? quoted(value) : plainText(kindOf(tag), value));
 
 function listText(items, text) {
   const rest = items.length > MOST_ITEMS ? [`and ${grouped(items.length - MOST_ITEMS)} more`] : [];
@@ -454,7 +463,7 @@ function holds(word, kind, value) {
     case "StackFrames": return word.stacks[value] === 1;
     case "StringMap": return value.some((string) => word.strings[string]);
     case "List":
-    case "Map": return inPairs(value).some(([kind, value]) => holds(word, kind, value));
+    case "Map": return inPairs(value).some(([tag, inner]) => holds(word, kindOf(tag), inner));
     case "Bool": return false;
     default: return word.number !== null && word.number.scale === null && sameNumber(value, word.number);
   }

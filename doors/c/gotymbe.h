@@ -43,14 +43,18 @@ enum {
     TRACE_TRUNCATED_RESET = 55,
     TRACE_NO_FRAME = 56,         /* no frame begins with byte `detail` there */
     TRACE_SCHEMA_CONFLICT = 57,  /* wire id `detail` stands for another schema */
-    TRACE_NO_HEADER = 58
+    TRACE_NO_HEADER = 58,
+    TRACE_NO_STATE = 60          /* of trace_read: the trace begins with no header, and the state is none */
 };
 
 typedef struct {
-    size_t length; /* bytes written, or needed; of trace_check how many read whole */
+    size_t length; /* bytes written, or needed; of trace_check how many read whole; of trace_read those of the batch */
+    size_t state;  /* of trace_read how many bytes of state stand after the batch */
+    size_t read;   /* of trace_read how many bytes of the trace were read */
     size_t place;  /* the record of a batch, from 0; the byte of a trace */
     size_t detail; /* the field, wire id or byte that the number speaks of; of trace_dump the status of `tracedump` */
-    uint64_t events; /* of trace_check how many events stand in what reads whole */
+    uint64_t events; /* of trace_check how many events stand in what reads whole; of trace_read how many were read */
+    uint8_t version; /* of trace_check and trace_read that of the header */
 } trace_report;
 
 /* The trace of a batch, with a header of its own. Traces may stand one after another in a file. */
@@ -58,6 +62,14 @@ uint32_t trace_record(const uint8_t *batch, size_t batch_len, uint8_t *out, size
 
 /* Whether a trace reads whole, by all readers, and else how far and why. */
 uint32_t trace_check(const uint8_t *trace, size_t trace_len, trace_report *report);
+
+/* What comes next in a trace as a batch, with at most so many events, and after it the state to hand back with what is
+ * left. Begin with the whole trace and no state. TRACE_DONE, or a number from 48 to 57: the batch is there, and `read`
+ * bytes of the trace were read; of such a number, no frame stands after them, by that cause. */
+uint32_t trace_read(const uint8_t *state, size_t state_len, const uint8_t *trace, size_t trace_len, uint64_t most,
+                    uint8_t *out, size_t out_len, trace_report *report);
+
+static inline bool trace_was_read(uint32_t code) { return code == TRACE_DONE || (code >= 48 && code <= 57); }
 
 /* The lines of a trace: all frames as they are, or its events with texts and stacks in place of ids. */
 uint32_t trace_dump(const uint8_t *trace, size_t trace_len, bool resolve, uint8_t *out, size_t out_len,
@@ -208,6 +220,108 @@ static inline void trace_map(trace_batch *b, uint32_t pairs) { trace_tagged(b, T
 
 /* The value of an optional field that is absent. */
 static inline void trace_absent(trace_batch *b) { trace_tagged(b, TRACE_OPTIONAL | TRACE_I64, 0, 1); }
+
+/* ---- walking over a batch ----
+ *
+ * Of a batch that trace_read wrote nothing is missing, so these test nothing. Put `{batch, length, 0}` into a
+ * trace_cursor, and take record by record until `at` is `length`. */
+typedef struct {
+    const uint8_t *bytes;
+    size_t length;
+    size_t at;
+} trace_cursor;
+
+/* Bytes, and a length in bytes or a count of things. */
+typedef struct {
+    const uint8_t *bytes;
+    size_t count;
+} trace_slice;
+
+static inline const uint8_t *trace_take(trace_cursor *c, size_t n) {
+    c->at += n;
+    return c->bytes + c->at - n;
+}
+
+/* A number of so many bytes, the lowest first. */
+static inline uint64_t trace_number_at(const uint8_t *bytes, size_t width) {
+    uint64_t number = 0;
+    for (size_t i = 0; i < width; i++)
+        number |= (uint64_t)bytes[i] << (8 * i);
+    return number;
+}
+
+static inline uint64_t trace_take_number(trace_cursor *c, size_t width) {
+    return trace_number_at(trace_take(c, width), width);
+}
+
+/* A number of type VARINT. */
+static inline uint64_t trace_take_varint(trace_cursor *c) {
+    uint64_t number = 0;
+    for (unsigned shift = 0;; shift += 7) {
+        uint8_t byte = *trace_take(c, 1);
+        if (shift < 64)
+            number |= (uint64_t)(byte & 0x7f) << shift;
+        if (byte < 0x80)
+            return number;
+    }
+}
+
+/* A name: bytes after two bytes of length. */
+static inline trace_slice trace_take_name(trace_cursor *c) {
+    trace_slice s = {NULL, (size_t)trace_take_number(c, 2)};
+    s.bytes = trace_take(c, s.count);
+    return s;
+}
+
+/* A text or bytes: after four bytes of length. */
+static inline trace_slice trace_take_counted(trace_cursor *c) {
+    trace_slice s = {NULL, (size_t)trace_take_number(c, 4)};
+    s.bytes = trace_take(c, s.count);
+    return s;
+}
+
+/* Addresses of eight bytes each, after four bytes of count: trace_number_at tells one. */
+static inline trace_slice trace_take_addresses(trace_cursor *c) {
+    trace_slice s = {NULL, (size_t)trace_take_number(c, 4)};
+    s.bytes = trace_take(c, 8 * s.count);
+    return s;
+}
+
+/* Steps over a value after its tag, and over the presence byte of a field of an optional type. */
+static inline void trace_skip_value(trace_cursor *c, uint8_t tag, bool is_field) {
+    if ((tag & TRACE_OPTIONAL) && is_field && *trace_take(c, 1) == 0)
+        return;
+    switch (tag & ~TRACE_OPTIONAL) {
+    case TRACE_I64: case TRACE_F64: trace_take(c, 8); return;
+    case TRACE_BOOL: case TRACE_U8: trace_take(c, 1); return;
+    case TRACE_U16: trace_take(c, 2); return;
+    case TRACE_U32: case TRACE_POOLED_STRING: case TRACE_POOLED_STACK: trace_take(c, 4); return;
+    case TRACE_STRING: case TRACE_BYTES: trace_take_counted(c); return;
+    case TRACE_STACK: trace_take_addresses(c); return;
+    case TRACE_VARINT: trace_take_varint(c); return;
+    default: break;
+    }
+    bool texts = (tag & ~TRACE_OPTIONAL) == TRACE_STRING_MAP, list = (tag & ~TRACE_OPTIONAL) == TRACE_LIST;
+    for (uint64_t left = trace_take_number(c, 4) * (list ? 1 : 2); left > 0; left--) {
+        if (texts)
+            trace_take_counted(c);
+        else
+            trace_skip_value(c, *trace_take(c, 1), false);
+    }
+}
+
+/* Passes over the fields and the annotations of a schema, which come after its name. */
+static inline void trace_skip_fields(trace_cursor *c) {
+    for (uint64_t left = trace_take_number(c, 2); left > 0; left--) {
+        trace_take_name(c);
+        trace_take(c, 1);
+    }
+    for (uint64_t left = trace_take_number(c, 2); left > 0; left--) {
+        trace_take(c, 2);
+        trace_take_name(c);
+        trace_take_counted(c);
+    }
+}
 
 #ifdef __cplusplus
 }

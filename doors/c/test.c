@@ -99,6 +99,49 @@ int main(void) {
     trace_absent(&batch);
     expect(trace_record(batch.bytes, batch.length, trace, sizeof trace, &report) == TRACE_MISFIT && report.place == 5
                && report.detail == 1, "a number for a signed one");
+
+    /* read back, an event at a time: the records of the batch again */
+    batch.length = 0;
+    poll(&batch);
+    expect(trace_record(batch.bytes, batch.length, trace, sizeof trace, &report) == TRACE_DONE, "recorded again");
+    length = report.length;
+    uint8_t out[1000], state[1000];
+    size_t at = 0, kept = 0;
+    uint64_t events = 0;
+    for (int turn = 0; turn < 4 && at < length; turn++) {
+        expect(trace_read(state, kept, trace + at, length - at, 1, out, 3, &report) == TRACE_SHORT_ROOM, "no room to read");
+        expect(trace_read(state, kept, trace + at, length - at, 1, out, sizeof out, &report) == TRACE_DONE, "read");
+        expect(report.version == 1 && report.events == 1, "one event, of version 1");
+        trace_cursor c = {out, report.length, 0};
+        while (c.at < c.length) {
+            switch (*trace_take(&c, 1)) {
+            case 1:
+                trace_take(&c, 2);
+                expect(trace_take_name(&c).count == 4, "the name of a schema");
+                trace_skip_fields(&c);
+                break;
+            case 2:
+                trace_take(&c, 2);
+                expect(trace_take_number(&c, 8) == (events == 0 ? 1000 : 900), "the time of an event");
+                for (uint64_t left = trace_take_number(&c, 2); left > 0; left--)
+                    trace_skip_value(&c, *trace_take(&c, 1), true);
+                events++;
+                break;
+            case 3: trace_take(&c, 4); trace_take_counted(&c); break;
+            default: trace_take(&c, 4); trace_take_addresses(&c); break;
+            }
+        }
+        kept = report.state;
+        memcpy(state, out + report.length, kept);
+        at += report.read;
+    }
+    expect(events == 2 && at == length, "both events, to the end");
+    expect(trace_read(state, 0, (const uint8_t *)"nothing", 7, 1, out, sizeof out, &report) == TRACE_NO_HEADER,
+           "nothing to read");
+    expect(trace_read((const uint8_t *)"none", 4, (const uint8_t *)"nothing", 7, 1, out, sizeof out, &report)
+               == TRACE_NO_STATE, "no state");
+    uint32_t code = trace_read(state, 0, trace, length - 1, 9, out, sizeof out, &report);
+    expect(trace_was_read(code) && code != TRACE_DONE && report.events == 1 && report.place < length, "a torn trace");
     printf("C: %s\n", failures ? "failed" : "passed");
     return failures != 0;
 }

@@ -16,6 +16,7 @@ I64, F64, BOOL, STRING, BYTES, POOLED_STACK, POOLED_STRING, STACK, VARINT, STRIN
 OPTIONAL = 0x80
 
 DONE, SHORT_ROOM, OUT_OF_MEMORY = 0, 1, 2
+STOPS = range(48, 58)  # why no frame stands after what was read
 NAMES = {
     2: "out of memory", 16: "no record of a batch stands there", 17: "no schema has this number",
     32: "a schema of this name has other fields or annotations", 33: "not as many values as fields",
@@ -25,6 +26,7 @@ NAMES = {
     52: "the presence byte of a field is cut", 53: "an optional field is no value of its type",
     54: "a field is no value of its type", 55: "a reset is cut", 56: "no frame stands there",
     57: "a wire id stands for another schema", 58: "no header stands there", 59: "too many bytes",
+    60: "no state stands there",
 }
 
 
@@ -42,8 +44,9 @@ class TraceError(Exception):
 
 
 class _Report(ctypes.Structure):
-    _fields_ = [("length", ctypes.c_size_t), ("place", ctypes.c_size_t), ("detail", ctypes.c_size_t),
-                ("events", ctypes.c_uint64)]
+    _fields_ = [("length", ctypes.c_size_t), ("state", ctypes.c_size_t), ("read", ctypes.c_size_t),
+                ("place", ctypes.c_size_t), ("detail", ctypes.c_size_t), ("events", ctypes.c_uint64),
+                ("version", ctypes.c_uint8)]
 
 
 def _load():
@@ -52,8 +55,10 @@ def _load():
     size, report = ctypes.c_size_t, ctypes.POINTER(_Report)
     library.trace_record.argtypes = [ctypes.c_char_p, size, ctypes.c_char_p, size, report]
     library.trace_check.argtypes = [ctypes.c_char_p, size, report]
+    library.trace_read.argtypes = [ctypes.c_char_p, size, ctypes.c_void_p, size, ctypes.c_uint64, ctypes.c_char_p, size,
+                                   report]
     library.trace_dump.argtypes = [ctypes.c_char_p, size, ctypes.c_bool, ctypes.c_char_p, size, report]
-    for call in (library.trace_record, library.trace_check, library.trace_dump):
+    for call in (library.trace_record, library.trace_check, library.trace_read, library.trace_dump):
         call.restype = ctypes.c_uint32
     return library
 
@@ -61,17 +66,24 @@ def _load():
 _library = _load()
 
 
-def _in_room(call, guess):
-    """What a call puts into room: `guess` bytes are tried, and then as many as it needs."""
+def _called(call, guess):
+    """What a call answers, reports and puts into room: `guess` bytes are tried, and then as many as it needs."""
     report = _Report()
     room = ctypes.create_string_buffer(guess)
     code = call(room, guess, ctypes.byref(report))
     if code == SHORT_ROOM:
-        room = ctypes.create_string_buffer(report.length)
-        code = call(room, report.length, ctypes.byref(report))
+        guess = report.length + report.state
+        room = ctypes.create_string_buffer(guess)
+        code = call(room, guess, ctypes.byref(report))
+    return code, report, ctypes.string_at(room, report.length + report.state) if code in (DONE, *STOPS) else b""
+
+
+def _in_room(call, guess):
+    """What a call puts into room, and its detail."""
+    code, report, room = _called(call, guess)
     if code != DONE:
         raise TraceError(code, report.length, report.place, report.detail)
-    return ctypes.string_at(room, report.length), report.detail
+    return room, report.detail
 
 
 def _number(n, width):
@@ -224,110 +236,166 @@ def dump_with_status(trace, resolve=False):
 
 
 class Event:
-    """An event that was read: the name of its schema, its time in nanoseconds, and its values by the names of fields.
+    """An event that was read: its `schema`, the `name` of that, its `time` in nanoseconds, its values in order (`row`),
+    and by the names of fields (`values`).
 
-    Numbers are `int`, floats `float`, texts `str` (an ill-formed byte as a surrogate), bytes `bytes`, stacks tuples of
-    addresses, maps of texts lists of pairs of `bytes`, lists lists, maps lists of pairs, and an absent value is None.
-    Where a text or stack is in no pool, `unresolved` tells its id, as `pool#7`, and `time` and `values` are None."""
+    Numbers are `int`, floats `float`, texts `str`, bytes `bytes`, stacks tuples of addresses, maps of texts lists of
+    pairs of `bytes`, lists lists, maps lists of pairs, and an absent value is None. Where a text or stack is in no pool,
+    `unresolved` tells the first id that is in none, as `pool#7`, and `row` and `values` are None."""
 
-    __slots__ = ("name", "time", "values", "unresolved")
+    __slots__ = ("schema", "name", "time", "row", "values", "unresolved")
 
-    def __init__(self, name, time, values, unresolved=None):
-        self.name, self.time, self.values, self.unresolved = name, time, values, unresolved
+    def __init__(self, schema, time, row, unresolved=None):
+        self.schema, self.name, self.time, self.row, self.unresolved = schema, schema.name, time, row, unresolved
+        self.values = None if row is None else {name: value for (name, _), value in zip(schema.fields, row)}
 
     def __repr__(self):
         return f"Event({self.name!r}, {self.time!r}, {self.values!r})"
 
 
-class _Line:
-    """A line of a resolved dump, and a place in it (docs/FORMAT.md, "Dumps")."""
+class _Bytes:
+    """A batch, and a place in it (docs/DOORS.md, "Batches"), with what its records have said."""
 
-    def __init__(self, line):
-        self.line, self.at = line, 0
+    def __init__(self, data):
+        self.data, self.at = data, 0
+        self.schemas, self.texts, self.stacks = {}, {}, {}
 
-    def takes(self, mark):
-        """Whether the mark stands here; it is stepped over."""
-        found = self.line.startswith(mark, self.at)
-        self.at += len(mark) if found else 0
-        return found
+    def take(self, size):
+        self.at += size
+        return self.data[self.at - size:self.at]
 
-    def raw(self):
-        """The bytes of a text in quotes."""
-        end = self.line.index('"', self.at + 1)
-        text = self.line[self.at + 1:end]
-        self.at = end + 1
-        if "\\" not in text:
-            return text.encode()
-        first, *others = text.split("\\x")
-        return first.encode() + b"".join(bytes([int(it[:2], 16)]) + it[2:].encode() for it in others)
+    def number(self, width):
+        return int.from_bytes(self.take(width), "little")
 
-    def text(self):
-        return self.raw().decode("utf-8", "surrogateescape")
+    def counted(self):
+        return self.take(self.number(4))
 
-    def word(self):
-        """What stands here up to a mark."""
-        end = self.at
-        while end < len(self.line) and self.line[end] not in " ,=]}":
-            end += 1
-        word, self.at = self.line[self.at:end], end
-        return word
+    def name(self):
+        return self.take(self.number(2)).decode()
 
-    def many(self, last, one):
-        """Things parted by commas, up to the bracket."""
-        found = []
-        while not self.takes(last):
-            self.takes(",")
-            found.append(one())
-        return found
+    def addresses(self):
+        count = self.number(4)
+        return struct.unpack(f"<{count}Q", self.take(8 * count))
 
-    def pair(self, one):
-        key = one()
-        self.takes("=")
-        return key, one()
+    def leb128(self):
+        number = shift = 0
+        while True:
+            byte = self.take(1)[0]
+            number |= (byte & 0x7F) << shift
+            shift += 7
+            if byte < 0x80:
+                return number & 2**64 - 1
 
-    def value(self):
-        if self.takes("None"):
+    def schema(self):
+        name = self.name()
+        fields = [(self.name(), self.number(1)) for _ in range(self.number(2))]
+        notes = [(self.number(2), self.name(), self.counted().decode()) for _ in range(self.number(2))]
+        return Schema(name, fields, notes)
+
+    def pooled(self, pool, word, found):
+        key = self.number(4)
+        if key not in pool:
+            found.append(f"{word}#{key}")
+        return pool.get(key)
+
+    def field(self, found):
+        kind = self.number(1)
+        if kind & OPTIONAL and self.number(1) == 0:
             return None
-        kind, self.at = self.line[self.at:self.line.index(":", self.at)], self.line.index(":", self.at) + 1
-        if kind in ("Varint", "I64"):
-            return int(self.word())
-        if kind == "F64":
-            return struct.unpack("<d", int(self.word(), 16).to_bytes(8, "little"))[0]
-        if kind == "Bool":
-            return self.word() == "true"
-        if kind == "String":
-            return self.text()
-        if kind == "Bytes":
-            return self.raw()
-        self.at += 1
-        if kind == "StackFrames":
-            return tuple(self.many("]", lambda: int(self.word(), 16)))
-        if kind == "StringMap":
-            return self.many("}", lambda: self.pair(self.raw))
-        if kind == "List":
-            return self.many("]", self.value)
-        return self.many("}", lambda: self.pair(self.value))
+        return self.value(kind & ~OPTIONAL, found)
 
-    def event(self):
-        self.takes("event ")
-        name = self.text()
-        if self.takes(" unresolved "):
-            return Event(name, None, None, self.line[self.at:])
-        self.takes(" timestamp_ns=")
-        time, values = int(self.word()), {}
-        while self.takes(" "):
-            field = self.text()
-            self.takes("=")
-            values[field] = self.value()
-        return Event(name, time, values)
+    def item(self, found):
+        return self.value(self.number(1) & ~OPTIONAL, found)
+
+    def value(self, kind, found):
+        """A value; ids of no text or stack are put into `found`."""
+        if kind == VARINT:
+            return self.leb128()
+        if kind in (U8, U16, U32):
+            return self.number({U8: 1, U16: 2, U32: 4}[kind])
+        if kind == I64:
+            return struct.unpack("<q", self.take(8))[0]
+        if kind == F64:
+            return struct.unpack("<d", self.take(8))[0]
+        if kind == BOOL:
+            return self.number(1) != 0
+        if kind == STRING:
+            return self.counted().decode()
+        if kind == BYTES:
+            return self.counted()
+        if kind == POOLED_STRING:
+            return self.pooled(self.texts, "pool", found)
+        if kind == POOLED_STACK:
+            return self.pooled(self.stacks, "stack", found)
+        if kind == STACK:
+            return self.addresses()
+        if kind == STRING_MAP:
+            pairs = [(self.counted(), self.counted()) for _ in range(self.number(4))]
+            texts = (_is_text(key) and _is_text(value) for key, value in pairs)
+            return pairs[:next((at for at, text in enumerate(texts) if not text), len(pairs))]
+        if kind == LIST:
+            return [self.item(found) for _ in range(self.number(4))]
+        return [(self.item(found), self.item(found)) for _ in range(self.number(4))]
+
+    def events(self):
+        """The events, one by one."""
+        while self.at < len(self.data):
+            kind = self.number(1)
+            if kind == 1:
+                number = self.number(2)
+                self.schemas[number] = self.schema()
+            elif kind == 2:
+                schema, time, found = self.schemas[self.number(2)], self.number(8), []
+                values = [self.field(found) for _ in range(self.number(2))]
+                yield Event(schema, time, None if found else values, found[0] if found else None)
+            elif kind == 3:
+                key, text = self.number(4), self.counted()
+                # (of bytes that are not UTF-8 no reader knows)
+                if _is_text(text):
+                    self.texts[key] = text.decode()
+            else:
+                key = self.number(4)
+                self.stacks[key] = self.addresses()
 
 
-def read(trace):
-    """The events of a trace, one by one, texts and stacks in place of the ids of the pools. Where the trace does not
-    read whole, the events before that place, and then `TraceError`."""
-    lines, status = dump_with_status(trace, True)
-    for line in lines.decode().split("\n"):
-        if line.startswith("event "):
-            yield _Line(line).event()
-    if status:
-        check(trace)
+def _is_text(raw):
+    try:
+        raw.decode()
+    except UnicodeDecodeError:
+        return False
+    return True
+
+
+class ReadBatch:
+    """What was read of a trace (docs/DOORS.md, "trace_read"): `version`, `batch` and `state` as bytes, `length` in
+    bytes of the trace, how many `events`, and why no frame stands after them (`stop`, a TraceError or None)."""
+
+    def __init__(self, report, room, stop):
+        self.version, self.length, self.events, self.stop = report.version, report.read, report.events, stop
+        self.batch, self.state = room[:report.length], room[report.length:]
+
+
+def read_batch(trace, state=b"", most=1000, place=0):
+    """What comes next in a trace, with at most so many events: of the whole trace with no state, and then of what is
+    left of it, from a place on, with the state that was handed out."""
+    begin = ctypes.cast(trace, ctypes.c_void_p).value + place
+    code, report, room = _called(lambda room, size, report: _library.trace_read(
+        state, len(state), begin, len(trace) - place, most, room, size, report), 2 * len(state) + 64 * min(most, 1000))
+    if code not in (DONE, *STOPS):
+        raise TraceError(code, 0, report.place, report.detail)
+    return ReadBatch(report, room, TraceError(code, report.read, report.place, report.detail) if code else None)
+
+
+def read(trace, most=1000):
+    """The events of a trace, one by one, texts and stacks in place of the ids of the pools; at most so many are held at
+    once. Where the trace does not read whole, the events before that place, and then `TraceError`."""
+    place, state = 0, b""
+    while True:
+        found = read_batch(trace, state, most, place)
+        yield from _Bytes(found.batch).events()
+        if found.stop:
+            stop = found.stop
+            raise TraceError(stop.code, place + stop.length, place + stop.place, stop.detail)
+        place, state = place + found.length, found.state
+        if place == len(trace):
+            return

@@ -5,6 +5,7 @@ import glob
 import importlib.machinery
 import importlib.util
 import os
+import re
 import struct
 import unittest
 
@@ -89,6 +90,62 @@ class Copied(reader.Trace):
         self.batches[-1] += b"\x02" + struct.pack("<HQH", wire_id, time, len(fields)) + values
 
 
+class Shown(gotymbe._Bytes):
+    """A batch whose values are read as the words of a dump (docs/FORMAT.md, "Dumps")."""
+
+    def value(self, kind, found):
+        if kind in (VARINT, U8, U16, U32):
+            return f"Varint:{super().value(kind, found)}"
+        if kind == I64:
+            return f"I64:{super().value(kind, found)}"
+        if kind == F64:
+            return f"F64:0x{self.number(8):016x}"
+        if kind == BOOL:
+            return f"Bool:{str(super().value(kind, found)).lower()}"
+        if kind in (STRING, BYTES):
+            return f"{'String' if kind == STRING else 'Bytes'}:{reader.quoted(self.counted())}"
+        if kind == POOLED_STRING:
+            return f"String:{reader.quoted((super().value(kind, found) or '').encode())}"
+        if kind in (STACK, POOLED_STACK):
+            return f"StackFrames:{reader.listed(super().value(kind, found) or ())}"
+        if kind == STRING_MAP:
+            pairs = super().value(kind, found)
+            return f"StringMap:{{{','.join(f'{reader.quoted(key)}={reader.quoted(text)}' for key, text in pairs)}}}"
+        items = super().value(kind, found)
+        if kind == LIST:
+            return f"List:[{','.join(items)}]"
+        return f"Map:{{{','.join(f'{key}={value}' for key, value in items)}}}"
+
+    def lines(self):
+        for event in self.events():
+            name = reader.quoted(event.name.encode())
+            if event.unresolved:
+                yield f"event {name} unresolved {event.unresolved}"
+            else:
+                fields = zip(event.schema.fields, event.row)
+                shown = "".join(f" {reader.quoted(field.encode())}={value or 'None'}" for (field, _), value in fields)
+                yield f"event {name} timestamp_ns={event.time}{shown}"
+
+
+def read_lines(data, most):
+    """The lines of a resolved dump, but for the place of a conflict, by batches of so many events."""
+    try:
+        found = gotymbe.read_batch(data, b"", most)
+    except TraceError as error:
+        assert error.code == 58, error
+        return ["no header"]
+    lines, place = [f"trace version {found.version}"], 0
+    while True:
+        assert found.events <= most
+        lines += Shown(found.batch).lines()
+        place += found.length
+        if found.stop:
+            return [*lines, "end conflict" if found.stop.code == 57 else f"end stopped at {place}"]
+        if place == len(data):
+            return [*lines, "end whole"]
+        found = gotymbe.read_batch(data, found.state, most, place)
+
+
 class Doors(unittest.TestCase):
     def test_each_type(self):
         kinds = KINDS + [(optional(kind), value, line) for kind, value, line in KINDS]
@@ -148,7 +205,7 @@ class Doors(unittest.TestCase):
             schema = Schema("C", [(f"f{at}", BOOL) for at in range(count)], [(0, "k", "v")] * count)
             trace = record([(schema, 1, [True] * count)])
             [event] = gotymbe.read(trace)
-            self.assertEqual(len(event.values), count)
+            self.assertEqual((len(event.values), len(event.schema.annotations)), (count, count))
         tick = Schema("Tick", [("n", VARINT)])
         for count in (0, 1, 256, 65536, 1000001):
             batch = tick.record(0) + b"".join(
@@ -156,6 +213,50 @@ class Doors(unittest.TestCase):
             trace = record_batch(batch)
             self.assertEqual(check(trace), count)
             self.assertEqual(dump(trace).count("\nevent "), count)
+            found = gotymbe.read_batch(trace, most=2**64 - 1)
+            self.assertEqual((found.events, found.length, found.stop), (count, len(trace), None))
+
+    @staticmethod
+    def heads(lines):
+        """The names and times of the lines of resolved events, where names are plain."""
+        words = [line.split(" timestamp_ns=", 1) for line in lines if " timestamp_ns=" in line]
+        name = re.compile(r"\\x([0-9A-F]{2})")
+        return [(name.sub(lambda it: chr(int(it[1], 16)), head[len('event "'):-1]).encode("latin-1").decode(),
+                 int(rest.split()[0])) for head, rest in words]
+
+    def test_read_in_batches(self):
+        """Each count of events at a time: the events, and the schemas, texts and stacks that each batch knows."""
+        for notes in ((), ((0, "unit", "ns"),)):
+            self.check_batches(notes)
+
+    def check_batches(self, notes):
+        """The same of a schema with these annotations."""
+        fields = [("n", VARINT), ("at", POOLED_STRING), ("stack", POOLED_STACK)]
+        schema = Schema("Poll", fields, list(notes))
+        rows = [(n, "ab"[n % 2] * n, tuple(range(n % 5))) for n in range(50)]
+        trace = record([(schema, 2**24 * n, row) for n, row in enumerate(rows)])
+        for most in (1, 2, 7, 49, 50, 51, 2**64 - 1):
+            place, state, read = 0, b"", []
+            while place < len(trace):
+                found = gotymbe.read_batch(trace, state, most, place)
+                read += gotymbe._Bytes(found.batch).events()
+                place, state = place + found.length, found.state
+                self.assertLessEqual(found.events, most)
+            self.assertEqual([(it.time, tuple(it.row)) for it in read], [(2**24 * n, row) for n, row in enumerate(rows)])
+            self.assertEqual(read[-1].schema.annotations, notes)
+            # (a schema with annotations is told twice, which a recorder refuses)
+            if notes:
+                with self.assertRaises(TraceError) as it:
+                    record_batch(found.batch)
+                self.assertEqual(it.exception.code, 32)
+                continue
+            self.assertEqual([it.time for it in gotymbe.read(record_batch(found.batch))], [it.time for it in read[-found.events:]])
+
+    def test_nothing_to_read(self):
+        for state, code in ((b"", 58), (b"none", 60), (record([])[:4], 60), (record([(Schema("A", []), 1, [])]), 60)):
+            with self.assertRaises(TraceError) as it:
+                gotymbe.read_batch(b"no trace", state)
+            self.assertEqual(it.exception.code, code)
 
     def test_recorded_traces(self):
         seen = 0
@@ -167,8 +268,14 @@ class Doors(unittest.TestCase):
                         lines, status = dump_with_status(data, resolve)
                         self.assertEqual(lines.decode().split("\n"), [*parts[part], ""], (path, name, part))
                         end = parts[part][-1].split()
+                        if resolve:
+                            wanted = [*parts[part][:-1], parts[part][-1].split(" at ")[0]
+                                      if end[1] == "conflict" else parts[part][-1]]
+                            for most in (2**64 - 1, 1, 3):
+                                self.assertEqual(read_lines(data, most), wanted, (path, name, most))
                         if resolve and status == 0:
-                            self.assertEqual(len(list(gotymbe.read(data))), lines.count(b"\nevent "), (path, name))
+                            self.assertEqual([(it.name, it.time) for it in gotymbe.read(data) if not it.unresolved],
+                                             self.heads(wanted), (path, name))
                         self.assertEqual(status, {"header": 1, "whole": 0, "stopped": 2, "conflict": 3}[end[1]])
                         seen += 1
                 # (checked by all readers: to that of borrowed values bad UTF-8 is no frame)

@@ -3,10 +3,12 @@ mod extra;
 mod numbers;
 mod polls;
 mod reading;
+mod timing;
 mod writing;
 
 use crate::numbers::{numbers, spelled};
 use crate::reading::FORMS;
+use crate::timing::both;
 use crate::writing::{READ, REGISTERS, WORKS, hash_of, written};
 use std::hint::black_box;
 
@@ -21,34 +23,6 @@ unsafe extern "C" {
 fn peak_kib() -> u64 {
     let s = std::fs::read_to_string("/proc/self/status").unwrap();
     s.lines().find(|l| l.starts_with("VmHWM")).unwrap().split_whitespace().nth(1).unwrap().parse().unwrap()
-}
-fn cpu() -> f64 {
-    #[repr(C)]
-    struct Ts(i64, i64);
-    unsafe extern "C" {
-        fn clock_gettime(id: i32, t: *mut Ts) -> i32;
-    }
-    let mut t = Ts(0, 0);
-    unsafe { clock_gettime(3, &mut t) };
-    t.0 as f64 + t.1 as f64 / 1e9
-}
-fn best(k: usize, mut f: impl FnMut() -> u64) -> f64 {
-    let mut b = f64::MAX;
-    for _ in 0..k {
-        let s = cpu();
-        black_box(f());
-        b = b.min(cpu() - s);
-    }
-    b
-}
-/// In turn, so that a loaded moment meets both.
-fn both(k: usize, mut f: impl FnMut() -> u64, mut g: impl FnMut() -> u64) -> (f64, f64) {
-    let (mut a, mut b) = (f64::MAX, f64::MAX);
-    for _ in 0..k {
-        a = a.min(best(1, &mut f));
-        b = b.min(best(1, &mut g));
-    }
-    (a, b)
 }
 fn work_of(name: &str) -> u32 {
     WORKS.iter().position(|w| *w == name).unwrap_or_else(|| panic!("no workload {name}")) as u32

@@ -8,7 +8,7 @@ use crate::afterwards::{
     begins_again, counts_raw_bytes, fails_by_flush, keeps_old_writer, stays_failed_raw,
 };
 use crate::breaking::{Fault, Manner};
-use crate::written::{Way, is_right};
+use crate::written::{Way, fails_to_flush, is_right};
 use std::alloc::{AllocError, Global};
 use std::io::ErrorKind;
 use std::process::ExitCode;
@@ -134,6 +134,9 @@ fn run_afterwards(rt: &(impl AllocGlobal + Print)) -> anyhow::Result<bool> {
         ErrorKind::StorageFull,
     ] {
         counts.add(Some(fails_by_flush(rt.alloc(), kind)?));
+        for worked in ALL {
+            counts.add(Some(fails_to_flush(rt.alloc(), worked, kind)?));
+        }
     }
     let (tried, differ) = (counts.tried, counts.differ);
     println!(rt; "after a failure: {tried} tried; {differ} differ")?;

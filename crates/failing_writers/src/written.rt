@@ -38,14 +38,17 @@ pub fn is_right(
             return Ok(Some(false));
         };
         let part = Part {
+            bytes,
             ends,
             before,
             manner,
         };
+        let mut next = Breaking::new(alloc, SOUND);
+        let (first, second) = (Plain(&mut writer), Plain(&mut next));
         let right = match way {
-            Way::Single => part.is_right_by_calls(alloc, &mut writer, &steps)?,
+            Way::Single => part.is_right_by_calls(alloc, first, second, &steps)?,
             Way::Listed => match calls_of(alloc, steps)? {
-                Some(calls) => part.is_right_by_list(alloc, &mut writer, &calls)?,
+                Some(calls) => part.is_right_by_list(alloc, first, second, &calls)?,
                 None => return Ok(None),
             },
         };
@@ -77,6 +80,8 @@ fn calls_of(alloc: Global, steps: Vec<Step>) -> Result<Option<Vec<Call>>, AllocE
 /// What one encoder writes of a trace.
 #[derive(Clone, Copy)]
 struct Part<'e> {
+    /// The bytes of the whole trace.
+    bytes: &'static [u8],
     /// How many bytes there are once it was made, and after each call.
     ends: &'e [usize],
     /// How many there were before.
@@ -104,21 +109,40 @@ impl Part<'_> {
         self.failing() == Some(0) && error == EncodeError::Writer(self.kind())
     }
 
-    fn is_right_by_calls(
+    /// How many bytes are counted after the call of this index by a writer that does not fail.
+    fn written_whole(self, call: usize) -> u64 {
+        let end = self.ends.get(call).copied().unwrap_or(0);
+        end.saturating_sub(self.before) as u64
+    }
+
+    /// Whether these are all bytes that the encoder writes.
+    fn is_whole(self, bytes: &[u8]) -> bool {
+        let end = self.ends.last().copied().unwrap_or(0);
+        self.bytes.get(self.before..end) == Some(bytes)
+    }
+
+    fn is_right_by_calls<'w>(
         self,
         alloc: Global,
-        writer: &mut Breaking,
+        writer: Plain<&'w mut Breaking>,
+        next: Plain<&'w mut Breaking>,
         steps: &[Step],
     ) -> Result<bool, AllocError> {
-        let mut encoder = match Encoder::new_to(alloc, Plain(&mut *writer)) {
+        let mut encoder = match Encoder::new_to(alloc, writer) {
             Ok(encoder) => encoder,
             Err(EncodeError::OutOfMemory) => return Err(AllocError),
             Err(error) => return Ok(self.is_refused(error)),
         };
-        Ok(self.is_answered(&mut encoder, steps))
+        let answered = self.is_answered(&mut encoder, steps);
+        if self.failing().is_none() {
+            return Ok(answered);
+        }
+        let failed = self.is_failed(&mut encoder, steps);
+        let reset = encoder.reset_to(next).is_ok();
+        Ok(answered && failed && reset && self.begins_again(&mut encoder, steps))
     }
 
-    /// Each call is answered as it should be, and so many bytes are counted; and again once one failed.
+    /// Each call is answered as it should be, and so many bytes are counted.
     fn is_answered(self, encoder: &mut Encoder<Plain<&mut Breaking>>, steps: &[Step]) -> bool {
         for i in 0..steps.len() {
             let call = i + 1;
@@ -128,7 +152,7 @@ impl Part<'_> {
                 return false;
             }
         }
-        self.failing().is_none() || self.is_failed(encoder, steps)
+        true
     }
 
     /// Each call is told that the encoder has failed, and nothing is counted.
@@ -142,29 +166,115 @@ impl Part<'_> {
         encoder.flush() == Err(EncodeError::Failed) && encoder.bytes_written() == written
     }
 
-    fn is_right_by_list(
+    /// Over a writer that does not fail each call is accepted and counted, and all bytes are there.
+    fn begins_again(self, encoder: &mut Encoder<Plain<&mut Breaking>>, steps: &[Step]) -> bool {
+        for i in 0..steps.len() {
+            let accepted = make(encoder, &steps[i]).is_ok();
+            if !accepted || encoder.bytes_written() != self.written_whole(i + 1) {
+                return false;
+            }
+        }
+        self.is_whole(&encoder.as_inner().0.bytes)
+    }
+
+    fn is_right_by_list<'w>(
         self,
         alloc: Global,
-        writer: &mut Breaking,
+        writer: Plain<&'w mut Breaking>,
+        next: Plain<&'w mut Breaking>,
         calls: &[Call],
     ) -> Result<bool, AllocError> {
-        let mut encoder = match Encoder::new_to(alloc, Plain(&mut *writer)) {
+        let mut encoder = match Encoder::new_to(alloc, writer) {
             Ok(encoder) => encoder,
             Err(EncodeError::OutOfMemory) => return Err(AllocError),
             Err(error) => return Ok(self.is_refused(error)),
         };
         let replies = run_calls(alloc, &mut encoder, calls)?;
-        if replies.len() != calls.len() || encoder.bytes_written() != self.written(calls.len()) {
-            return Ok(false);
+        let counted = encoder.bytes_written() == self.written(calls.len());
+        let answered = counted && replies.len() == calls.len() && self.are_answers(&replies);
+        if self.failing().is_none() {
+            return Ok(answered);
         }
+        let failed = all_failed(&run_calls(alloc, &mut encoder, calls)?);
+        let reset = encoder.reset_to(next).is_ok();
+        let again = none_refused(&run_calls(alloc, &mut encoder, calls)?);
+        Ok(answered && failed && reset && again && self.is_whole(&encoder.as_inner().0.bytes))
+    }
+
+    /// Whether each reply is as it should be.
+    fn are_answers(self, replies: &[Reply]) -> bool {
         for i in 0..replies.len() {
-            let wanted = answer_of(self.failing(), i + 1, self.kind());
-            if told_by(&replies[i]) != wanted {
+            if told_by(&replies[i]) != answer_of(self.failing(), i + 1, self.kind()) {
+                return false;
+            }
+        }
+        true
+    }
+}
+
+/// Whether each call was told that the encoder has failed.
+fn all_failed(replies: &[Reply]) -> bool {
+    for reply in replies {
+        if told_by(reply) != Err(EncodeError::Failed) {
+            return false;
+        }
+    }
+    true
+}
+
+/// Whether no call was refused.
+fn none_refused(replies: &[Reply]) -> bool {
+    for reply in replies {
+        if told_by(reply).is_err() {
+            return false;
+        }
+    }
+    true
+}
+
+/// Whether after each call of the trace's first encoder a flush that fails so is told, and changes nothing but that the
+/// encoder has failed.
+pub fn fails_to_flush(alloc: Global, worked: Worked, kind: ErrorKind) -> Result<bool, AllocError> {
+    let manner = Manner {
+        flushing: Some(kind),
+        ..SOUND
+    };
+    for steps in parts_of(alloc, worked)? {
+        for count in 0..=steps.len() {
+            let mut writer = Breaking::new(alloc, manner);
+            let Ok(mut encoder) = Encoder::new_to(alloc, Plain(&mut writer)) else {
+                return Err(AllocError);
+            };
+            for step in &steps[..count] {
+                if make(&mut encoder, step).is_err() {
+                    return Ok(false);
+                }
+            }
+            let written = encoder.bytes_written();
+            let told = encoder.flush() == Err(EncodeError::Writer(kind));
+            if !told || !is_left_failed(&mut encoder, &steps, written) {
                 return Ok(false);
             }
         }
-        Ok(true)
     }
+    Ok(true)
+}
+
+/// Whether each call is told that the encoder has failed, and so many bytes are counted and out.
+fn is_left_failed(
+    encoder: &mut Encoder<Plain<&mut Breaking>>,
+    steps: &[Step],
+    written: u64,
+) -> bool {
+    for step in steps {
+        if make(encoder, step) != Err(EncodeError::Failed) {
+            return false;
+        }
+    }
+    let out = encoder.as_inner().0.bytes.len() as u64;
+    encoder.flush() == Err(EncodeError::Failed)
+        && encoder.bytes_written() == written
+        && out == written
 }
 
 /// Whether a reply is a refusal, and which.

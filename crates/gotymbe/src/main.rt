@@ -1,5 +1,6 @@
 //! The program `gotymbe` (docs/TOOLS.md): checks, shows, counts, saves, joins, cuts and follows traces, and writes
-//! their events as JSON. What it decides stands in the crates `gotymbe_words` and `gotymbe_plan`; here that is joined.
+//! their events as JSON and as tables. What it decides stands in the crates `gotymbe_words` and `gotymbe_plan`; here
+//! that is joined.
 #![tactic(auto)]
 
 mod events;
@@ -8,6 +9,7 @@ mod input;
 mod merge;
 mod output;
 mod pieces;
+mod tables;
 mod tasks;
 
 use crate::tasks::Call;

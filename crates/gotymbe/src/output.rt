@@ -6,7 +6,7 @@ use std::fs::{File, OpenOptions};
 use std::io::ErrorKind;
 use std::rt::Files;
 use std::{fs, io};
-use trace_values::leb128::TraceWrite;
+use trace_values::leb128::{Plain, TraceWrite, send_all};
 
 /// A writer, and the last kind of error that it gave.
 #[derive(Drop)]
@@ -39,12 +39,19 @@ impl<W: TraceWrite + Drop> TraceWrite for Noted<W> {
     }
 }
 
-/// A file that is written, and under which name it lies meanwhile.
+/// A file that is written, its name, and under which name it lies meanwhile.
+#[derive(Drop)]
+pub(crate) struct Place {
+    name: String,
+    beside: String,
+    way: Way,
+}
+
+/// A file that is written, and is open.
 #[derive(Drop)]
 pub(crate) struct Written {
     pub(crate) file: File,
-    beside: String,
-    way: Way,
+    place: Place,
 }
 
 /// Begins to write a file; or why that can't be.
@@ -59,9 +66,26 @@ pub(crate) fn begin(
         Way::Into => into_place(rt, name),
         Way::Beside | Way::InPlace => beside(rt, name),
     };
-    match begun {
-        Ok((file, beside)) => Ok(Written { file, beside, way }),
-        Err(error) => Err(Ending::Unwritten(error.kind())),
+    let name = String::from_str(rt.alloc(), name);
+    match (begun, name) {
+        (Ok((file, beside)), Ok(name)) => Ok(Written {
+            file,
+            place: Place { name, beside, way },
+        }),
+        (Ok((file, beside)), Err(_)) => Err(Ending::OutOfMemory),
+        (Err(error), _) => Err(Ending::Unwritten(error.kind())),
+    }
+}
+
+/// Begins to write a file that is opened for each part of it; or why that can't be.
+pub(crate) fn begin_place(
+    rt: &(impl AllocGlobal + Files<File = File>),
+    name: &str,
+    force: bool,
+) -> Result<Place, Ending> {
+    match begin(rt, name, force) {
+        Ok(written) => Ok(written.place),
+        Err(ending) => Err(ending),
     }
 }
 
@@ -104,19 +128,51 @@ fn beside(rt: &(impl AllocGlobal + Files<File = File>), name: &str) -> io::Resul
     Err(io::Error::from(ErrorKind::AlreadyExists))
 }
 
-impl Written {
-    /// Puts what was written under its name.
-    pub(crate) fn finish(self, rt: &impl Files, name: &str) -> io::Result<()> {
-        let beside = self.beside.as_str();
+impl Place {
+    /// Appends bytes.
+    pub(crate) fn append(&self, rt: &impl Files<File = File>, bytes: &[u8]) -> Result<(), Ending> {
+        let mut options = OpenOptions::new();
+        let opened = match self.way {
+            Way::Into | Way::Refused => options.write(true).open(rt, self.name.as_str()),
+            Way::Beside | Way::InPlace => options.append(true).open(rt, self.beside.as_str()),
+        };
+        match opened {
+            Ok(file) => match send_all(&mut Plain(&file), bytes) {
+                Ok(()) => Ok(()),
+                Err(fault) => Err(Ending::Unwritten(fault.kind)),
+            },
+            Err(error) => Err(Ending::Unwritten(error.kind())),
+        }
+    }
+
+    /// Puts what was appended under its name; or the name, and why that can't be.
+    pub(crate) fn finish(self, rt: &impl Files<File = File>) -> Result<(), (String, Ending)> {
+        let opened = match self.way {
+            Way::Beside | Way::InPlace => File::open(rt, self.beside.as_str()),
+            Way::Into | Way::Refused => return Ok(()),
+        };
+        let finished = match opened {
+            Ok(file) => self.put_under(rt, &file),
+            Err(error) => Err(error),
+        };
+        match finished {
+            Ok(()) => Ok(()),
+            Err(error) => Err((self.name, Ending::Unwritten(error.kind()))),
+        }
+    }
+
+    // Puts a file that was written under its name.
+    fn put_under(&self, rt: &impl Files, file: &File) -> io::Result<()> {
+        let (name, beside) = (self.name.as_str(), self.beside.as_str());
         match self.way {
             Way::Beside => {
-                self.file.sync_all()?;
+                file.sync_all()?;
                 let linked = fs::hard_link(rt, beside, name);
                 fs::remove_file(rt, beside)?;
                 linked
             }
             Way::InPlace => {
-                self.file.sync_all()?;
+                file.sync_all()?;
                 fs::rename(rt, beside, name)
             }
             Way::Into | Way::Refused => Ok(()),
@@ -131,5 +187,28 @@ impl Written {
             }
             Way::Into | Way::Refused => {}
         }
+    }
+}
+
+impl Written {
+    /// Puts what was written under its name.
+    pub(crate) fn finish(self, rt: &impl Files) -> io::Result<()> {
+        self.place.put_under(rt, &self.file)
+    }
+
+    /// Removes what was written.
+    pub(crate) fn give_up(self, rt: &impl Files) {
+        self.place.give_up(rt);
+    }
+}
+
+/// Makes a folder where nothing stands under its name, and answers whether it did.
+pub(crate) fn make_folder(rt: &impl Files, name: &str) -> Result<bool, Ending> {
+    match fs::create_dir(rt, name) {
+        Ok(()) => Ok(true),
+        Err(error) => match error.kind() {
+            ErrorKind::AlreadyExists => Ok(false),
+            kind => Err(Ending::Unwritten(kind)),
+        },
     }
 }

@@ -1,6 +1,6 @@
 //! Frames of an input that is read in pieces.
 
-use crate::input::{front_ending, open, read_all, unread};
+use crate::input::{open, unread};
 use crate::tasks::Call;
 use dial9_trace_format::decoder::{DecodedFrame, FeedDecoder};
 use gotymbe_plan::ending::{Ending, lacks_cause};
@@ -9,8 +9,8 @@ use std::alloc::Global;
 use std::fs::File;
 use std::io::{ErrorKind, Read};
 use std::rt::{Clock, Files};
-use trace_fronts::whole::Readers;
-use trace_stats::event::OwnedEvent;
+use trace_events::event::OwnedEvent;
+use trace_fronts::whole::Stop;
 use trace_stats::trace::TraceStats;
 
 // So many bytes at most are read at once.
@@ -18,6 +18,9 @@ const PIECE: usize = 16_384;
 
 /// What takes frames, each with the decoder that gave it and how many bytes it took.
 pub(crate) trait FrameSink {
+    /// Learns the version of the trace, before its first frame.
+    fn begin(&mut self, version: u8) -> Result<(), Ending>;
+
     /// Takes a frame; or an ending, where no more are taken.
     fn frame<'f>(
         &mut self,
@@ -25,6 +28,12 @@ pub(crate) trait FrameSink {
         decoder: &'f FeedDecoder,
         bytes: u64,
     ) -> Result<(), Ending>;
+
+    /// Hands on what it holds: no frame comes before more is read.
+    fn settle(&mut self) -> Result<(), Ending>;
+
+    /// Learns how reading ended, and how many bytes the frames have.
+    fn end(&mut self, ending: Ending, position: usize) -> Result<(), Ending>;
 }
 
 /// Takes all frames, and does nothing with them.
@@ -32,8 +41,61 @@ pub(crate) trait FrameSink {
 pub(crate) struct Nothing;
 
 impl FrameSink for Nothing {
+    fn begin(&mut self, _: u8) -> Result<(), Ending> {
+        Ok(())
+    }
+
     fn frame<'f>(&mut self, _: &'f DecodedFrame, _: &'f FeedDecoder, _: u64) -> Result<(), Ending> {
         Ok(())
+    }
+
+    fn settle(&mut self) -> Result<(), Ending> {
+        Ok(())
+    }
+
+    fn end(&mut self, _: Ending, _: usize) -> Result<(), Ending> {
+        Ok(())
+    }
+}
+
+/// Which events are asked for, and how many more are taken.
+#[derive(Drop)]
+pub(crate) struct Picked<'n> {
+    pub(crate) filter: Filter<'n>,
+    pub(crate) left: u64,
+}
+
+impl<'n> Picked<'n> {
+    /// All that a call asks for.
+    pub(crate) fn of(call: &'n Call<'_>) -> Picked<'n> {
+        Picked {
+            filter: call.filter(),
+            left: call.asked.limit.unwrap_or(u64::MAX),
+        }
+    }
+
+    /// The event that a frame is, if it is one that is asked for; an ending where as many were taken as are asked for.
+    pub(crate) fn pick<'f>(
+        &mut self,
+        frame: &'f DecodedFrame,
+        decoder: &'f FeedDecoder,
+    ) -> Result<Option<OwnedEvent<'f>>, Ending> {
+        let (registry, strings, stacks) = (
+            decoder.registry(),
+            decoder.string_pool(),
+            decoder.stack_pool(),
+        );
+        let Some(event) = OwnedEvent::of_frame(frame, registry, strings, stacks) else {
+            return Ok(None);
+        };
+        if self.left == 0 {
+            return Err(Ending::Whole);
+        }
+        if !self.filter.wants(event.schema.name(), event.timestamp_ns) {
+            return Ok(None);
+        }
+        self.left -= 1;
+        Ok(Some(event))
     }
 }
 
@@ -41,36 +103,35 @@ impl FrameSink for Nothing {
 #[derive(Drop)]
 pub(crate) struct Tally<'n> {
     pub(crate) stats: TraceStats,
-    pub(crate) filter: Filter<'n>,
-    pub(crate) left: u64,
+    pub(crate) picked: Picked<'n>,
 }
 
 impl FrameSink for Tally<'_> {
+    fn begin(&mut self, _: u8) -> Result<(), Ending> {
+        Ok(())
+    }
+
     fn frame<'f>(
         &mut self,
         frame: &'f DecodedFrame,
         decoder: &'f FeedDecoder,
         bytes: u64,
     ) -> Result<(), Ending> {
-        let (registry, strings, stacks) = (
-            decoder.registry(),
-            decoder.string_pool(),
-            decoder.stack_pool(),
-        );
-        let Some(event) = OwnedEvent::of_frame(frame, registry, strings, stacks) else {
+        let Some(event) = self.picked.pick(frame, decoder)? else {
             return Ok(());
         };
-        if self.left == 0 {
-            return Err(Ending::Whole);
-        }
-        if !self.filter.wants(event.schema.name(), event.timestamp_ns) {
-            return Ok(());
-        }
-        self.left -= 1;
         match self.stats.add_owned(&event, bytes) {
             Ok(()) => Ok(()),
             Err(_) => Err(Ending::OutOfMemory),
         }
+    }
+
+    fn settle(&mut self) -> Result<(), Ending> {
+        Ok(())
+    }
+
+    fn end(&mut self, _: Ending, _: usize) -> Result<(), Ending> {
+        Ok(())
     }
 }
 
@@ -83,8 +144,7 @@ pub(crate) fn ending_of(
     read_named(rt, call, name, &mut Nothing)
 }
 
-/// Gives the frames of a file to a sink, and answers how reading ended. A file whose cause is not known then is read
-/// once more, as a whole.
+/// Gives the frames of a file to a sink, and answers how reading ended.
 pub(crate) fn read_named<S: FrameSink>(
     rt: &(impl AllocGlobal + Files<File = File> + Input + Eprint + Clock),
     call: &Call<'_>,
@@ -99,26 +159,86 @@ pub(crate) fn read_named<S: FrameSink>(
         }
         Err(error) => unread(error.kind()),
     };
+    placed(rt, call, name, ending)
+}
+
+/// How an input ended that a decoder was fed: all of it, or as far as that took it.
+pub(crate) fn ending_by(decoder: &FeedDecoder) -> Ending {
+    if let Some(fault) = decoder.fault() {
+        return Ending::of_error(*fault);
+    }
+    let rest = Ending::of_rest(decoder.version(), decoder.position(), decoder.fed_len());
+    let Ending::Unfinished(_) = rest else {
+        return rest;
+    };
+    match decoder.cause() {
+        Ok(Some(error)) => Ending::of_error(error),
+        Ok(None) => rest,
+        Err(_) => Ending::OutOfMemory,
+    }
+}
+
+/// The same ending of a file, and of a schema that conflicts with the place where that begins: up to its last byte the
+/// file is read once more.
+pub(crate) fn placed(
+    rt: &(impl AllocGlobal + Files<File = File> + Input + Eprint + Clock),
+    call: &Call<'_>,
+    name: &str,
+    ending: Ending,
+) -> Ending {
+    let Ending::Stopped(stop) = ending else {
+        return ending;
+    };
     if !lacks_cause(ending, name) {
         return ending;
     }
-    match read_all(rt, call, name) {
-        Ok(bytes) => front_ending(rt.alloc(), &bytes, Readers::Owned),
-        Err(unread) => unread,
+    let mut decoder = FeedDecoder::new(rt.alloc());
+    let before = (stop.place as u64).saturating_sub(1);
+    match open(rt, call, name) {
+        Ok(mut input) => {
+            let again = feed(&mut input, &mut decoder, &mut Nothing, before);
+            input.finish();
+            match again {
+                Ending::Unread(_) | Ending::OutOfMemory => again,
+                _ => Ending::Stopped(Stop {
+                    place: decoder.position(),
+                    cause: stop.cause,
+                }),
+            }
+        }
+        Err(error) => unread(error.kind()),
     }
 }
 
 // Gives the frames of an input to a sink, and answers how reading ended.
 fn read_frames<R: Read, S: FrameSink>(alloc: Global, input: &mut R, sink: &mut S) -> Ending {
     let mut decoder = FeedDecoder::new(alloc);
+    let ending = feed(input, &mut decoder, sink, u64::MAX);
+    match sink.end(ending, decoder.position()) {
+        Ok(()) => ending,
+        Err(failed) => failed,
+    }
+}
+
+// Feeds so many bytes of an input to a decoder, or all that it has, and answers how reading ended.
+fn feed<R: Read, S: FrameSink>(
+    input: &mut R,
+    decoder: &mut FeedDecoder,
+    sink: &mut S,
+    most: u64,
+) -> Ending {
     let mut piece = [0; PIECE];
+    let mut left = most;
     'reads: for _ in 0..u64::MAX {
+        if left == 0 {
+            return ending_by(decoder);
+        }
         match input.read(&mut piece) {
-            Ok(0) => {
-                return Ending::of_rest(decoder.version(), decoder.position(), decoder.fed_len());
-            }
+            Ok(0) => return ending_by(decoder),
             Ok(count) => {
-                if let Some(ending) = take_piece(&mut decoder, &piece[..count], sink) {
+                let front = front_of(&piece[..count], left);
+                left = left.saturating_sub(count as u64);
+                if let Err(ending) = take_piece(decoder, front, sink) {
                     return ending;
                 }
             }
@@ -132,27 +252,44 @@ fn read_frames<R: Read, S: FrameSink>(alloc: Global, input: &mut R, sink: &mut S
     Ending::OutOfMemory
 }
 
-// Gives the frames that are whole with a piece to a sink. Answers how reading ended, if it did.
+// At most so many bytes of a piece.
+fn front_of(piece: &[u8], most: u64) -> &[u8] {
+    match usize::try_from(most) {
+        Ok(most) => piece.get(..most).unwrap_or(piece),
+        Err(_) => piece,
+    }
+}
+
+// Gives the frames that are whole with a piece to a sink; or an ending, where no more are read.
 fn take_piece<S: FrameSink>(
     decoder: &mut FeedDecoder,
     piece: &[u8],
     sink: &mut S,
-) -> Option<Ending> {
+) -> Result<(), Ending> {
     if let Err(error) = decoder.push(piece) {
-        return Some(Ending::of_error(error));
+        return Err(Ending::of_error(error));
     }
     'frames: for _ in 0..u64::MAX {
-        let before = decoder.position();
-        match decoder.next_frame() {
+        let (begun, before) = (decoder.version().is_some(), decoder.position());
+        let pulled = decoder.next_frame();
+        if !begun {
+            if let Some(version) = decoder.version() {
+                sink.begin(version)?;
+            }
+        }
+        match pulled {
             Ok(Some(frame)) => {
                 let bytes = decoder.position().saturating_sub(before) as u64;
-                if let Err(ending) = sink.frame(&frame, decoder, bytes) {
-                    return Some(ending);
-                }
+                sink.frame(&frame, decoder, bytes)?;
             }
-            Ok(None) => return decoder.stuck().map(Ending::of_error),
-            Err(error) => return Some(Ending::of_error(error)),
+            Ok(None) => {
+                return match decoder.stuck() {
+                    Some(_) => Err(ending_by(decoder)),
+                    None => sink.settle(),
+                };
+            }
+            Err(error) => return Err(Ending::of_error(error)),
         }
     }
-    None
+    Ok(())
 }

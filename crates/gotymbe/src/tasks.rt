@@ -16,6 +16,7 @@ use trace_values::leb128::{Plain, TraceWrite};
 mod following;
 mod saving;
 mod showing;
+mod tabling;
 
 /// What is asked for, and whether standard error is a terminal.
 #[derive(Drop)]
@@ -42,6 +43,7 @@ pub(crate) fn carry_out(
 ) -> anyhow::Result<u8> {
     match call.asked.task {
         Task::Check => Ok(showing::check(rt, call)?),
+        Task::Csv => Ok(tabling::write_tables(rt, call)?),
         Task::Follow => Ok(following::follow(rt, call)?),
         _ => Ok(write(rt, call)?),
     }
@@ -81,7 +83,7 @@ fn write_file(
     written: Written,
 ) -> Result<u8, AllocError> {
     match write_to(rt, call, name, Plain(&written.file)) {
-        Ok(status) if is_kept(status) => match written.finish(rt, name) {
+        Ok(status) if is_kept(status) => match written.finish(rt) {
             Ok(()) => Ok(status),
             Err(error) => tell(rt, name, Ending::Unwritten(error.kind())),
         },

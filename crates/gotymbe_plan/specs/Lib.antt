@@ -6,3 +6,4 @@ pub mod Numbers
 pub mod Outputs
 pub mod Progress
 pub mod Statistics
+pub mod LastLines

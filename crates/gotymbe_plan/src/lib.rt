@@ -5,6 +5,7 @@
 pub mod ending;
 pub mod filter;
 pub mod following;
+pub mod last_line;
 pub mod merging;
 pub mod numbers;
 pub mod output;

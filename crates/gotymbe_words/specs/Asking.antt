@@ -9,7 +9,7 @@ use Rattle.clap.specs.declared.error.kind.ErrorKind.{ErrorKind}
 use Rattle.clap.specs.declared.error.kind.ErrorKind.TheVariants.{DisplayHelp, DisplayVersion, OutOfMemory}
 use Rattle.gotymbe_words.specs.declared.asked.Asked.{Asked}
 use Rattle.gotymbe_words.specs.declared.asked.Task.{Task}
-use Rattle.gotymbe_words.specs.declared.asked.Task.TheVariants.{Check, Dump, Json, Salvage, Join, Stats}
+use Rattle.gotymbe_words.specs.declared.asked.Task.TheVariants.{Check, Dump, Json, Csv, Salvage, Join, Stats}
 use Rattle.gotymbe_words.specs.declared.asked.Task.TheVariants.{Cut, Follow}
 
 -- the name of each task
@@ -17,6 +17,7 @@ abbrev pub task_name : Task → List ℕ
 task_name Check = codes "check"
 task_name Dump = codes "dump"
 task_name Json = codes "json"
+task_name Csv = codes "csv"
 task_name Salvage = codes "salvage"
 task_name Join = codes "join"
 task_name Stats = codes "stats"

@@ -16,6 +16,8 @@ pub enum Task {
     Dump,
     /// Writes events as lines of JSON.
     Json,
+    /// Writes events as rows of tables.
+    Csv,
     /// Saves what reads whole of a trace.
     Salvage,
     /// Joins traces.
@@ -37,7 +39,7 @@ pub struct Asked<'a> {
     pub files: Vec<&'a str>,
     /// The names of the events that are shown; of all where none is listed.
     pub events: Vec<&'a str>,
-    /// The name of the file that is written; `None` for standard output.
+    /// The name of the file or the folder that is written; `None` for standard output.
     pub output: Option<&'a str>,
     /// Whether that may stand in place of a file that is there.
     pub force: bool,
@@ -76,6 +78,7 @@ pub fn task_of(name: &str) -> Option<Task>
         "check" => Some(Task::Check),
         "dump" => Some(Task::Dump),
         "json" => Some(Task::Json),
+        "csv" => Some(Task::Csv),
         "salvage" => Some(Task::Salvage),
         "join" => Some(Task::Join),
         "stats" => Some(Task::Stats),

@@ -1,6 +1,8 @@
 //! The words that the program takes.
 
-use crate::command::options::{file, files, flag, merge, number, quiet, range, selecting, writing};
+use crate::command::options::{
+    file, files, flag, folder, merge, number, quiet, range, selecting, writing,
+};
 use clap::{Arg, Command};
 use std::alloc::{AllocError, Global};
 
@@ -22,11 +24,13 @@ fn with_readers<'a>(alloc: Global, command: Command<'a>) -> Result<Command<'a>, 
     let check = check(alloc)?;
     let dump = dump(alloc)?;
     let json = json(alloc)?;
+    let csv = csv(alloc)?;
     let stats = stats(alloc)?;
     command
         .subcommand(check)?
         .subcommand(dump)?
         .subcommand(json)?
+        .subcommand(csv)?
         .subcommand(stats)
 }
 
@@ -67,7 +71,7 @@ fn dump<'a>(alloc: Global) -> Result<Command<'a>, AllocError> {
         )
         .arg(resolve)?
         .arg(merge)?;
-    selecting(alloc, dump)
+    writing(alloc, selecting(alloc, dump)?)
 }
 
 fn json<'a>(alloc: Global) -> Result<Command<'a>, AllocError> {
@@ -78,7 +82,16 @@ fn json<'a>(alloc: Global) -> Result<Command<'a>, AllocError> {
             "Examples:\n  gotymbe json run.trace\n  gotymbe json --from 1000 --to 2000 -o events.jsonl run.trace",
         )
         .arg(merge)?;
-    selecting(alloc, json)
+    writing(alloc, selecting(alloc, json)?)
+}
+
+fn csv<'a>(alloc: Global) -> Result<Command<'a>, AllocError> {
+    let csv = Command::new(alloc, "csv")
+        .about("Writes the events of each schema as a table of comma-separated values")
+        .after_help(
+            "Examples:\n  gotymbe csv -o tables run.trace next.trace\n  gotymbe csv --event Poll -o polls run.trace",
+        );
+    folder(alloc, selecting(alloc, csv)?)
 }
 
 fn stats<'a>(alloc: Global) -> Result<Command<'a>, AllocError> {
@@ -87,7 +100,7 @@ fn stats<'a>(alloc: Global) -> Result<Command<'a>, AllocError> {
         .after_help(
             "Examples:\n  gotymbe stats run.trace next.trace\n  gotymbe stats --event Poll run.trace",
         );
-    selecting(alloc, stats)
+    writing(alloc, selecting(alloc, stats)?)
 }
 
 fn salvage<'a>(alloc: Global) -> Result<Command<'a>, AllocError> {

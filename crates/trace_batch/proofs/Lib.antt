@@ -1,3 +1,10 @@
 pub mod RecordsRead
 pub mod BatchesRead
 pub mod Accepted
+pub mod RecordsPut
+pub mod SchemaRecords
+pub mod EventsSaid
+pub mod FramesTaken
+pub mod StatesRead
+pub mod ReadLawLemmas
+pub mod AcceptedRecords

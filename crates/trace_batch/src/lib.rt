@@ -2,11 +2,21 @@
 //! (docs/DOORS.md, "Batches"). A batch becomes a trace of its own, and the events of a trace a batch.
 #![tactic(auto)]
 
+mod accepting;
 mod asking;
 pub mod batch_error;
+pub mod laws;
+pub mod read;
+pub mod read_error;
 mod reading;
+mod record_bytes;
 pub mod recording;
+mod taking;
+#[cfg(test)]
+mod tests;
 
 pub use asking::calls_of;
 pub use batch_error::{BatchCause, BatchError};
+pub use read::{ReadBatch, header_version, read_batch};
+pub use read_error::ReadError;
 pub use recording::record_batch;

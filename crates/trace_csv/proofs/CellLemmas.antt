@@ -1,24 +1,23 @@
 -- Cells that are appended to a row.
 use Rattle.std.proofs.Common.{◌≡◌, ℕ, Bool, true, false, List, [], ◌∷◌, ◌++◌, length, take, get_or, ◌+◌, ◌<◌, ◌≤◌}
 use Rattle.std.proofs.Common.{refl, sym, ap, subst}
-use Rattle.std.proofs.Common.{◌∙◌, rules, Result, Ok, Err, OnOk, map as list_map}
+use Rattle.std.proofs.lemmas.List.{append-nil}
+use Rattle.std.specs.Fmt.{decimal}
+use Rattle.std.proofs.Common.{◌∙◌, Result, Ok, Err, OnOk, map as list_map}
 use Rattle.std.specs.Prelude.{Option, Some, from_bits}
 use Rattle.std.specs.Bool.{MatchBool}
-use Rattle.std.specs.Borrow.{Bor}
 use Rattle.std.specs.FinMap as finmap
 use Rattle.std.specs.Float.{float_is_finite}
 use Rattle.std.specs.Float.Ieee.{Float, binary64}
 use Rattle.std.proofs.lemmas.List.{take_all}
 use Rattle.csv.specs.Records.{Row, fields_of, partial_of}
+use Rattle.json.specs.Print.{print_from}
 use Rattle.json.specs.Json.{Json, number, string, null}
+use Rattle.trace_json.specs.Lines.{json_text}
 use Rattle.trace_json.specs.EventJson.{IsFloatJson, IsNumeralOf, pooled_text_json, special_text}
 use Rattle.trace_json.proofs.OneMore.{seen_more}
-use Rattle.trace_values.specs.Refs.{ref_view}
 use Rattle.trace_values.specs.Values.{Value}
 use Rattle.trace_values.specs.Values as values
-use Rattle.trace_values.specs.declared.types.borrowed.FieldValueRef.{FieldValueRef, the_lemmas}
-use Rattle.trace_values.specs.declared.types.borrowed.FieldValueRef.TheVariants as refs
-use Rattle.trace_values.specs.declared.types.ids.InternedString.{InternedString}
 use Rattle.trace_wire.specs.Runs.{Pools}
 use Rattle.trace_csv.specs.Cells.{IsCellOf, AreCellsOf}
 use Rattle.trace_csv.specs.parts.Cells.{EndsIn, PushesCell}
@@ -40,45 +39,55 @@ cell_pushed (Ok u) is {old} cell {field} p whole same so = record {
   whole = p.partial;
 }
 
--- the cell of a value that stands for another
-seen_as :
-    (p : Pools) (v x : FieldValueRef) (w : Value) (cell : List ℕ) → v ≡ x → ref_view x ≡ w → IsCellOf p w cell →
-    IsCellOf p (ref_view v) cell
-seen_as p v x w cell is seen so = subst (λ (u : Value). IsCellOf p u cell) (sym (ap ref_view is ∙ seen)) so
+-- the cell of a value that is another
+cell_as : (p : Pools) (v w : Value) (cell : List ℕ) → v ≡ w → IsCellOf p w cell → IsCellOf p v cell
+cell_as p v w cell is so = subst (λ (u : Value). IsCellOf p u cell) (sym is) so
 
 -- the cell of a text
-pub text_cell :
-    (p : Pools) (v : FieldValueRef) (b : Bor (List ℕ)) → v ≡ refs.String b → IsCellOf p (ref_view v) b.now
-text_cell p v b is =
-    seen_as p v (refs.String b) (values.text b.now) b.now is (search (rules, the_lemmas)) (string b.now, refl, refl)
+pub text_cell : (p : Pools) (v : Value) (s : List ℕ) → v ≡ values.text s → IsCellOf p v s
+text_cell p v s is = cell_as p v (values.text s) s is (string s, refl, refl)
 
 -- the cell of a text in the pool
 pub pooled_cell :
-    (p : Pools) (v : FieldValueRef) (id : InternedString) (s : List ℕ) → v ≡ refs.PooledString id →
-    finmap.get p.strings id.0 ≡ Some s → IsCellOf p (ref_view v) s
+    (p : Pools) (v : Value) (id : ℕ) (s : List ℕ) → v ≡ values.pooled_text id → finmap.get p.strings id ≡ Some s →
+    IsCellOf p v s
 pooled_cell p v id s is found =
-    seen_as p v (refs.PooledString id) (values.pooled_text id.0) s is (search (rules, the_lemmas))
-    (string s, sym (ap (pooled_text_json id.0) found), refl)
+    cell_as p v (values.pooled_text id) s is (string s, sym (ap (pooled_text_json id) found), refl)
+
+number_text : (s : List ℕ) → json_text (number s) ≡ s
+unfolding print_from
+number_text s = append-nil s
+
+-- the cell of a number from 0 on, as it was pushed
+pub natural_pushed :
+    {E : Type 0} (p : Pools) (v : Value) (n : ℕ) (r : Result (Unit {0}) E) (old new : Row) → v ≡ values.number n →
+    PushesCell (λ cell. cell ≡ decimal n) old new r → PushesCell (IsCellOf p v) old new r
+natural_pushed p v n (Err e) old new is h = h
+natural_pushed p v n (Ok u) old new is h = record {
+  cell = h.cell;
+  is_so = cell_as p v (values.number n) h.cell is
+      (number (decimal n), refl, h.is_so ∙ sym (number_text (decimal n)));
+  cells = h.cells;
+  whole = h.whole;
+}
 
 -- the cell of an absent value
-pub absent_cell : (p : Pools) (v : FieldValueRef) → v ≡ refs.None → IsCellOf p (ref_view v) []
-absent_cell p v is =
-    seen_as p v refs.None values.absent [] is (search (rules, the_lemmas)) (null, refl, refl)
+pub absent_cell : (p : Pools) (v : Value) → v ≡ values.absent → IsCellOf p v []
+absent_cell p v is = cell_as p v values.absent [] is (null, refl, refl)
 
 by_test : (b c : Bool) (P Q : Type 0) → b ≡ c → MatchBool c P Q → MatchBool b P Q
 by_test b c P Q same h = subst (λ (x : Bool). MatchBool x P Q) (sym same) h
 
 -- the cell of a float that is infinite or no number
 pub special_cell :
-    (p : Pools) (v : FieldValueRef) (n : ℕ) (x : Float) (b : Bool) → v ≡ refs.F64 n → x ≡ from_bits binary64 n →
-    b ≡ float_is_finite x → b ≡ false → IsCellOf p (ref_view v) (special_text n)
+    (p : Pools) (v : Value) (n : ℕ) (x : Float) (b : Bool) → v ≡ values.float n → x ≡ from_bits binary64 n →
+    b ≡ float_is_finite x → b ≡ false → IsCellOf p v (special_text n)
 special_cell p v n x b is bits test other =
     let special : IsFloatJson n (string (special_text n)) =
     by_test (float_is_finite (from_bits binary64 n)) false
     ((t : List ℕ) × IsNumeralOf n t × (string (special_text n) ≡ number t))
     (string (special_text n) ≡ string (special_text n)) (ap float_is_finite (sym bits) ∙ sym test ∙ other) refl in
-    seen_as p v (refs.F64 n) (values.float n) (special_text n) is (search (rules, the_lemmas))
-    (string (special_text n), special, refl)
+    cell_as p v (values.float n) (special_text n) is (string (special_text n), special, refl)
 
 -- ---- the cells of an event
 
@@ -88,6 +97,17 @@ pub record HasCells (p : Pools) (time : List ℕ) (vs : List Value) (row : Row) 
   pub are : AreCellsOf p vs cells
   pub row_is : fields_of row ≡ time ∷ cells
   pub whole : partial_of row ≡ []
+
+-- the time alone
+pub first_cell :
+    (p : Pools) (time : List ℕ) {empty row : Row} → fields_of empty ≡ [] →
+    EndsIn (λ cell. cell ≡ time) empty row → HasCells p time [] row
+first_cell p time none e = record {
+  cells = [];
+  are = refl;
+  row_is = e.cells ∙ ap (λ (l : List (List ℕ)). l ++ e.cell ∷ []) none ∙ ap (λ (c : List ℕ). c ∷ []) e.is_so;
+  whole = e.whole;
+}
 
 cells_more :
     (p : Pools) (vs : List Value) (v : Value) (cs : List (List ℕ)) (c : List ℕ) → AreCellsOf p vs cs →

@@ -1,3 +1,4 @@
 pub mod CellLemmas
 pub mod FileLemmas
 pub mod ColumnLemmas
+pub mod ManifestLemmas

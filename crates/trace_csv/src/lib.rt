@@ -4,6 +4,8 @@
 pub mod cells;
 pub mod columns;
 pub mod files;
+pub mod kinds;
+pub mod manifest;
 pub mod tables;
 #[cfg(test)]
 mod tests;

@@ -1,15 +1,17 @@
 //! Traces written by hand after docs/FORMAT.md, and their tables as Python's `csv` and `json` write them.
 
-use crate::cells::put_event;
+use crate::cells::{put_event, put_owned_event};
 use crate::columns::put_columns;
 use crate::files::table_name;
+use crate::manifest::manifest_text;
 use crate::tables::push_table;
 use csv::{ByteRecord, Writer, WriterBuilder};
-use dial9_trace_format::decoder::{Decoder, EventSink, RawEvent};
+use dial9_trace_format::decoder::{Decoder, EventSink, FeedDecoder, RawEvent};
 use std::alloc::Global;
 use std::test::Fail;
+use trace_events::event::OwnedEvent;
 use trace_values::types::FieldType;
-use trace_wire::schema::FieldDef;
+use trace_wire::schema::{FieldDef, SchemaEntry};
 
 /// Traces in hexadecimal digits, each with the rows of its events.
 const ROWS: [(&str, &str); 10] = [
@@ -122,6 +124,34 @@ fn has_rows(alloc: Global, trace: &[u8], wanted: &str) -> bool {
     }
 }
 
+/// Whether the frames of a trace that is fed have exactly these rows.
+fn has_owned_rows(alloc: Global, trace: &[u8], wanted: &str) -> bool {
+    let mut decoder = FeedDecoder::new(alloc);
+    let mut row = ByteRecord::new(alloc);
+    let mut text = flexible(alloc);
+    if decoder.push(trace).is_err() {
+        return false;
+    }
+    for _ in 0..trace.len() {
+        let Ok(Some(frame)) = decoder.next_frame() else {
+            break;
+        };
+        let (registry, strings, stacks) = (
+            decoder.registry(),
+            decoder.string_pool(),
+            decoder.stack_pool(),
+        );
+        if let Some(event) = OwnedEvent::of_frame(&frame, registry, strings, stacks) {
+            if put_owned_event(alloc, &mut row, &event).is_err()
+                || text.write_byte_record(&row).is_err()
+            {
+                return false;
+            }
+        }
+    }
+    text.flush().is_ok() && text.get_ref().as_slice() == wanted.as_bytes()
+}
+
 /// A writer of rows of any length.
 fn flexible(alloc: Global) -> Writer<Vec<u8>> {
     WriterBuilder::new()
@@ -135,6 +165,7 @@ fn events(rt: HostRuntime) -> Result<(), Fail> {
     for (trace, wanted) in ROWS {
         let trace = hex::decode(alloc, trace)?;
         assert!(rt; has_rows(alloc, &trace, wanted));
+        assert!(rt; has_owned_rows(alloc, &trace, wanted));
     }
     Ok(())
 }
@@ -183,6 +214,26 @@ fn names_of_tables(rt: HostRuntime) -> Result<(), Fail> {
     );
     Ok(())
 }
+
+#[test]
+fn texts_of_manifests(rt: HostRuntime) -> Result<(), Fail> {
+    let alloc = rt.alloc();
+    let mut fields = Vec::new(alloc);
+    fields.push(FieldDef::new(alloc, "worker", FieldType::Varint)?)?;
+    fields.push(FieldDef::new(alloc, "a\nb\0\"", FieldType::Bool)?)?;
+    let schema = SchemaEntry::new(alloc, "../P", fields.as_slice())?;
+    let text = manifest_text(alloc, "1-P", &schema, 18446744073709551615)?;
+    assert!(rt; text.as_slice() == MANIFEST.as_bytes());
+    let schema = SchemaEntry::new(alloc, "", &[])?;
+    let text = manifest_text(alloc, "2-", &schema, 0)?;
+    assert!(rt; text.as_slice() == EMPTY.as_bytes());
+    Ok(())
+}
+
+const EMPTY: &str = "{\"table\":\"2-\",\"schema\":\"\",\"rows\":0,\"fields\":[]}";
+
+const MANIFEST: &str = "{\"table\":\"1-P\",\"schema\":\"../P\",\"rows\":18446744073709551615,\
+                        \"fields\":[\"worker\",\"a\\nb\\u0000\\\"\"]}";
 
 #[test]
 fn texts_of_tables(rt: HostRuntime) -> Result<(), Fail> {

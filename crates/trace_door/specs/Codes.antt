@@ -6,6 +6,8 @@ use Rattle.dial9_trace_format.specs.declared.decoder.error.DecodeErrorKind.{Deco
 use Rattle.dial9_trace_format.specs.declared.decoder.error.DecodeErrorKind.TheVariants as kinds
 use Rattle.trace_batch.specs.declared.batch_error.BatchCause.{BatchCause}
 use Rattle.trace_batch.specs.declared.batch_error.BatchCause.TheVariants as causes
+use Rattle.trace_batch.specs.declared.read_error.ReadError.{ReadError}
+use Rattle.trace_batch.specs.declared.read_error.ReadError.TheVariants as read_errors
 
 -- all was done; the room is too short; want of memory
 abbrev pub done_code : ℕ
@@ -41,6 +43,13 @@ cause_code causes.OutOfMemory = memory_code
 abbrev pub cause_field : BatchCause → ℕ
 cause_field (causes.Refused (errors.Misfit field)) = field
 cause_field cause = 0
+
+-- the number of a cause why nothing is read
+abbrev pub read_code : ReadError → ℕ
+read_code read_errors.NoHeader = 58
+read_code read_errors.NoState = 60
+read_code read_errors.TooLong = 35
+read_code read_errors.OutOfMemory = memory_code
 
 -- the number of a cause why a trace ends, and the wire id or byte of which it speaks
 abbrev pub stop_code : DecodeErrorKind → ℕ

@@ -1,25 +1,32 @@
 //! What calls answer: a number for each outcome, and a report.
 
 ghost use Rattle.std.specs.Prelude.{◌≡◌};
-ghost use Rattle.trace_door.specs.Codes.{cause_code, cause_field, encode_code, stop_code, stop_detail};
+ghost use Rattle.trace_door.specs.Codes.{cause_code, cause_field, encode_code, read_code, stop_code, stop_detail};
 ghost use Rattle.trace_door.specs.parts.Codes.{empty_report};
 
 use dial9_trace_format::decoder::DecodeErrorKind;
 use dial9_trace_format::leb128::EncodeError;
-use trace_batch::BatchCause;
+use trace_batch::{BatchCause, ReadError};
 
 /// What a call answers besides its number (docs/DOORS.md, "Calls"). Where a call says nothing of a part it is 0.
 #[repr(C)]
 #[derive(Clone, Copy)]
 pub struct TraceReport {
-    /// How many bytes were written, or are needed where the room is too short; of a check, how many read whole.
+    /// How many bytes were written, or are needed where the room is too short; of a check, how many read whole; of a
+    /// read, how many the batch has.
     pub length: usize,
+    /// Of a read, how many bytes the state has, which stands after the batch.
+    pub state: usize,
+    /// Of a read, how many bytes of the trace were read.
+    pub read: usize,
     /// Of a batch the record that is refused, from 0; of a trace the place of the cause, in bytes.
     pub place: usize,
     /// The field, the wire id or the byte that the number speaks of; of a dump the status of `tracedump`.
     pub detail: usize,
-    /// Of a check, how many events stand in what reads whole.
+    /// Of a check, how many events stand in what reads whole; of a read, how many were read.
     pub events: u64,
+    /// Of a check or a read, the version of the header.
+    pub version: u8,
 }
 
 /// All was done.
@@ -35,9 +42,12 @@ pub(crate) fn empty_report() -> TraceReport
 {
     TraceReport {
         length: 0,
+        state: 0,
+        read: 0,
         place: 0,
         detail: 0,
         events: 0,
+        version: 0,
     }
 }
 
@@ -60,6 +70,18 @@ pub(crate) fn cause_field(cause: BatchCause) -> usize
     match cause {
         BatchCause::Refused(EncodeError::Misfit { field }) => field,
         _ => 0,
+    }
+}
+
+/// The number of a cause why nothing is read.
+pub(crate) fn read_code(error: ReadError) -> u32
+    ensures { result ≡ read_code error }
+{
+    match error {
+        ReadError::NoHeader => 58,
+        ReadError::NoState => 60,
+        ReadError::TooLong => 35,
+        ReadError::OutOfMemory => OUT_OF_MEMORY,
     }
 }
 

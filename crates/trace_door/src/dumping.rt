@@ -2,7 +2,7 @@
 
 ghost use Rattle.trace_door.specs.Calls.{DumpsInto};
 
-use crate::codes::{OUT_OF_MEMORY, TraceReport, empty_report};
+use crate::codes::{DONE, OUT_OF_MEMORY, TraceReport, empty_report};
 use crate::filling::fill;
 use std::alloc::Global;
 use trace_lines::dump::{FAILED, dump};
@@ -30,5 +30,5 @@ pub extern "C" fn trace_dump(
     }
     report.length = lines.len();
     report.detail = usize::from(status);
-    fill(out, &lines)
+    fill(out, &lines, DONE)
 }

@@ -7,4 +7,5 @@ mod codes;
 mod counting;
 mod dumping;
 mod filling;
+mod reading;
 mod recording;

@@ -2,7 +2,7 @@
 
 ghost use Rattle.trace_door.specs.Calls.{RecordsInto};
 
-use crate::codes::{TraceReport, cause_code, cause_field, empty_report};
+use crate::codes::{DONE, TraceReport, cause_code, cause_field, empty_report};
 use crate::filling::fill;
 use std::alloc::Global;
 use trace_batch::record_batch;
@@ -24,7 +24,7 @@ pub extern "C" fn trace_record(
     match record_batch(alloc, batch) {
         Ok(trace) => {
             report.length = trace.len();
-            fill(out, &trace)
+            fill(out, &trace, DONE)
         }
         Err(error) => {
             report.place = error.index;

@@ -31,7 +31,8 @@ members_tokens_of (m ∷ ms) =
 in_three : (a b c d : List Token) → ((a ++ b) ++ c) ++ d ≡ a ++ (b ++ (c ++ d))
 in_three a b c d = simp append_assoc
 
-enclosed :
+-- what was put from an opening to a closing
+pub enclosed :
     {E : Type 0} (r : Result (Unit {0}) E) (old : List Token) {one two : List Token}
     (new opening inside closing : List Token) →
     one ≡ old ++ opening → two ≡ one ++ inside → OnOk r (new ≡ two ++ closing) →

@@ -140,7 +140,11 @@ pub(crate) fn put_stack_ref(
 }
 
 /// Writes a stack: a list of the texts of its addresses.
-fn put_stack(alloc: Global, out: &mut Writer, addresses: &[u64]) -> Result<(), AllocError>
+pub(crate) fn put_stack(
+    alloc: Global,
+    out: &mut Writer,
+    addresses: &[u64],
+) -> Result<(), AllocError>
     ensures tokens { Puts (stack_json addresses.now) out.old out.new result }
     ensures before { out.new.before ≡ out.old.before }
 {

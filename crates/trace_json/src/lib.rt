@@ -5,6 +5,7 @@ mod fields;
 pub mod laws;
 pub mod leaves;
 pub mod line;
+mod parts;
 #[cfg(test)]
 mod tests;
 mod texts;

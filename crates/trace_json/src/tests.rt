@@ -1,9 +1,10 @@
 //! Traces written by hand after docs/FORMAT.md, and their lines as Python's `json` prints them.
 
-use crate::line::push_event_line;
-use dial9_trace_format::decoder::{Decoder, EventSink, RawEvent};
+use crate::line::{push_event_line, push_owned_event_line};
+use dial9_trace_format::decoder::{Decoder, EventSink, FeedDecoder, RawEvent};
 use std::alloc::{AllocError, Global};
 use std::test::Fail;
+use trace_events::event::OwnedEvent;
 
 /// Traces in hexadecimal digits, each with the lines of its events.
 const ROWS: [(&str, &str); 10] = [
@@ -116,12 +117,38 @@ fn has_lines(alloc: Global, trace: &[u8], wanted: &str) -> bool {
     }
 }
 
+/// Whether the frames of a trace that is fed have exactly these lines.
+fn has_owned_lines(alloc: Global, trace: &[u8], wanted: &str) -> bool {
+    let mut decoder = FeedDecoder::new(alloc);
+    let mut text = Vec::new(alloc);
+    if decoder.push(trace).is_err() {
+        return false;
+    }
+    for _ in 0..trace.len() {
+        let Ok(Some(frame)) = decoder.next_frame() else {
+            break;
+        };
+        let (registry, strings, stacks) = (
+            decoder.registry(),
+            decoder.string_pool(),
+            decoder.stack_pool(),
+        );
+        if let Some(event) = OwnedEvent::of_frame(&frame, registry, strings, stacks) {
+            if push_owned_event_line(alloc, &mut text, &event).is_err() {
+                return false;
+            }
+        }
+    }
+    text.as_slice() == wanted.as_bytes()
+}
+
 #[test]
 fn rows(rt: HostRuntime) -> Result<(), Fail> {
     let alloc = rt.alloc();
     for (trace, wanted) in ROWS {
         let trace = hex::decode(alloc, trace)?;
         assert!(rt; has_lines(alloc, &trace, wanted));
+        assert!(rt; has_owned_lines(alloc, &trace, wanted));
     }
     Ok(())
 }

@@ -1,10 +1,10 @@
-//! Values as JSON (docs/FORMAT.md, "Lines of JSON"). Each function answers `AllocError` where a growth was refused.
+//! Values as JSON, whoever holds them (docs/FORMAT.md, "Lines of JSON"). Each function answers `AllocError` where a
+//! growth was refused.
 
 ghost use Rattle.std.specs.Prelude.{◌≡◌, IfOk, map as list_map};
 ghost use Rattle.json.specs.Tree.{json_tokens};
-ghost use Rattle.trace_values.specs.Flat.{flat_form};
+ghost use Rattle.trace_events.specs.Holding.{HoldsNone};
 ghost use Rattle.trace_values.specs.Reading.{values_to_items, values_to_pairs};
-ghost use Rattle.trace_values.specs.Refs.{ref_view, ref_views, ref_pair_views};
 ghost use Rattle.trace_values.specs.Values.{list, map};
 ghost use Rattle.dial9_trace_format.specs.parts.Resolving.{as_pools};
 ghost use Rattle.trace_json.specs.EventJson.{IsValueJson, AreItemsJson, ArePairsJson};
@@ -12,24 +12,43 @@ ghost use Rattle.trace_json.specs.Lines.{IsTextOf};
 ghost use Rattle.trace_json.specs.Put.{PutsOne};
 ghost use Rattle.trace_json.specs.parts.Put.{PutsAll};
 
-use crate::leaves::{put_bytes, put_float, put_pooled_stack, put_pooled_text, put_stack_ref};
-use crate::texts::put_texts;
 use json::Writer;
 use std::alloc::{AllocError, Global};
+use trace_events::value::{Held, TraceValue};
 use trace_values::tri;
-use trace_values::types::{FieldValueRef, items_of, pairs_of};
 use trace_wire::pools::{StackPool, StringPool};
+
+mod borrowed;
+mod owned;
+
+/// A value that stands in a line of JSON.
+pub trait JsonValue: TraceValue {
+    /// Writes a value that holds no others, with what the pools hold in place of ids. For one that does it may write
+    /// anything.
+    fn put_flat(
+        &self,
+        alloc: Global,
+        out: &mut Writer,
+        strings: &StringPool,
+        stacks: &StackPool,
+    ) -> Result<(), AllocError>
+        ensures tokens { HoldsNone (Self.value self.now) → PutsOne (IsValueJson record {
+          strings = strings.now;
+          stacks = stacks.now;
+        } (Self.value self.now)) out.old out.new result }
+        ensures before { out.new.before ≡ out.old.before };
+}
 
 /// The text of a value, with what the pools hold in place of ids, with no space. `AllocError` where a growth was
 /// refused.
-pub fn value_text(
+pub fn value_text<V: JsonValue>(
     alloc: Global,
     strings: &StringPool,
     stacks: &StackPool,
-    value: &FieldValueRef<'_>,
+    value: &V,
 ) -> Result<Vec<u8>, AllocError>
     ensures { IfOk result (λ text. IsTextOf
-        (IsValueJson record { strings = strings.now; stacks = stacks.now } (ref_view value.now))
+        (IsValueJson record { strings = strings.now; stacks = stacks.now } (V.value value.now))
         text.items) }
 {
     let mut writer = Writer::new(Vec::new(alloc));
@@ -39,63 +58,35 @@ pub fn value_text(
 
 /// Writes a value, with what the pools hold in place of ids.
 #[cycle(value)]
-pub(crate) fn put_value(
+pub(crate) fn put_value<V: JsonValue>(
     alloc: Global,
     out: &mut Writer,
     strings: &StringPool,
     stacks: &StackPool,
-    value: &FieldValueRef<'_>,
+    value: &V,
 ) -> Result<(), AllocError>
-    ensures tokens { PutsOne (IsValueJson (as_pools strings.now stacks.now) (ref_view value.now))
+    ensures tokens { PutsOne (IsValueJson (as_pools strings.now stacks.now) (V.value value.now))
         out.old out.new result }
     ensures before { out.new.before ≡ out.old.before }
 {
-    match value {
-        FieldValueRef::List(items) => put_list(alloc, out, strings, stacks, items_of(items)),
-        FieldValueRef::Map(pairs) => put_map(alloc, out, strings, stacks, pairs_of(pairs)),
-        _ => put_flat(alloc, out, strings, stacks, value),
-    }
-}
-
-/// Writes a value that holds no others, and `null` for one that does.
-fn put_flat(
-    alloc: Global,
-    out: &mut Writer,
-    strings: &StringPool,
-    stacks: &StackPool,
-    value: &FieldValueRef<'_>,
-) -> Result<(), AllocError>
-    ensures tokens { PutsOne
-        (IsValueJson (as_pools strings.now stacks.now) (flat_form (ref_view value.now))) out.old
-        out.new result }
-    ensures before { out.new.before ≡ out.old.before }
-{
-    match value {
-        FieldValueRef::I64(number) => out.i64(*number),
-        FieldValueRef::F64(bits) => put_float(alloc, out, *bits),
-        FieldValueRef::Bool(flag) => out.boolean(*flag),
-        FieldValueRef::String(text) => out.string(text),
-        FieldValueRef::Bytes(bytes) => put_bytes(alloc, out, bytes),
-        FieldValueRef::PooledString(id) => put_pooled_text(out, strings, *id),
-        FieldValueRef::StackFrames(frames) => put_stack_ref(alloc, out, frames),
-        FieldValueRef::PooledStackFrames(id) => put_pooled_stack(alloc, out, stacks, *id),
-        FieldValueRef::Varint(number) => out.u64(*number),
-        FieldValueRef::StringMap(pairs) => put_texts(alloc, out, pairs),
-        _ => out.null(),
+    match value.held() {
+        Held::Items(items) => put_list(alloc, out, strings, stacks, items),
+        Held::Pairs(pairs) => put_map(alloc, out, strings, stacks, pairs),
+        Held::Nothing => value.put_flat(alloc, out, strings, stacks),
     }
 }
 
 // Writes a list of items.
 #[cycle(value)]
-fn put_list(
+fn put_list<V: JsonValue>(
     alloc: Global,
     out: &mut Writer,
     strings: &StringPool,
     stacks: &StackPool,
-    items: &[FieldValueRef<'_>],
+    items: &[V],
 ) -> Result<(), AllocError>
     ensures tokens { PutsOne (IsValueJson (as_pools strings.now stacks.now)
-        (list (values_to_items (ref_views items.now)))) out.old out.new result }
+        (list (values_to_items (list_map V.value items.now)))) out.old out.new result }
     ensures before { out.new.before ≡ out.old.before }
 {
     out.begin_array()?;
@@ -105,15 +96,16 @@ fn put_list(
 
 // Writes a list of pairs.
 #[cycle(value)]
-fn put_map(
+fn put_map<V: JsonValue>(
     alloc: Global,
     out: &mut Writer,
     strings: &StringPool,
     stacks: &StackPool,
-    pairs: &[(FieldValueRef<'_>, FieldValueRef<'_>)],
+    pairs: &[(V, V)],
 ) -> Result<(), AllocError>
     ensures tokens { PutsOne (IsValueJson (as_pools strings.now stacks.now)
-        (map (values_to_pairs (ref_pair_views pairs.now)))) out.old out.new result }
+        (map (values_to_pairs (list_map (λ p. (V.value p.0, V.value p.1)) pairs.now)))) out.old
+        out.new result }
     ensures before { out.new.before ≡ out.old.before }
 {
     out.begin_array()?;
@@ -123,15 +115,15 @@ fn put_map(
 
 // Writes items, one after another.
 #[cycle(value)]
-fn put_items(
+fn put_items<V: JsonValue>(
     alloc: Global,
     out: &mut Writer,
     strings: &StringPool,
     stacks: &StackPool,
-    items: &[FieldValueRef<'_>],
+    items: &[V],
 ) -> Result<(), AllocError>
     ensures tokens { PutsAll json_tokens (AreItemsJson (as_pools strings.now stacks.now)
-        (values_to_items (ref_views items.now))) out.old out.new result }
+        (values_to_items (list_map V.value items.now))) out.old out.new result }
     ensures before { out.new.before ≡ out.old.before }
 {
     'items: for item in items {
@@ -142,15 +134,16 @@ fn put_items(
 
 // Writes pairs, one after another: each a list of both.
 #[cycle(value)]
-fn put_pairs(
+fn put_pairs<V: JsonValue>(
     alloc: Global,
     out: &mut Writer,
     strings: &StringPool,
     stacks: &StackPool,
-    pairs: &[(FieldValueRef<'_>, FieldValueRef<'_>)],
+    pairs: &[(V, V)],
 ) -> Result<(), AllocError>
     ensures tokens { PutsAll json_tokens (ArePairsJson (as_pools strings.now stacks.now)
-        (values_to_pairs (ref_pair_views pairs.now))) out.old out.new result }
+        (values_to_pairs (list_map (λ p. (V.value p.0, V.value p.1)) pairs.now))) out.old out.new
+        result }
     ensures before { out.new.before ≡ out.old.before }
 {
     'pairs: for pair in pairs {

@@ -1,7 +1,7 @@
 -- The depth of a list of values, by which functions over values that call themselves end.
 use Rattle.std.proofs.Common.{◌≡◌, ℕ, ◌<◌, ◌≤◌, max, List, [], ◌∷◌, length, get_or, sym, subst, arith, suc}
 use denote.Param.Weighed.{most, at_most}
-use Rattle.trace_lines.specs.Holding.{AreBelow}
+use Rattle.trace_lines.specs.parts.Holding.{AreBelow}
 
 -- of a pair, by the depth of each of both
 abbrev pub pair_depth : {V : Type 0} → (V → ℕ) → V × V → ℕ

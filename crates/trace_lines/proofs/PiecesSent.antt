@@ -15,7 +15,7 @@ use Rattle.trace_lines.specs.declared.dump.Reader.TheVariants.{Owned}
 use Rattle.trace_lines.proofs.DumpStatuses.{dump_status}
 use Rattle.trace_lines.proofs.DumpsSentInParts.{front_unsettled}
 use Rattle.trace_lines.specs.parts.Sent.{Sends}
-use Rattle.trace_lines.specs.PieceDumps.{DumpsFrontOfBytes}
+use Rattle.trace_lines.specs.PieceDumps.{DumpsFrontOfBytes, DumpsFrontOfRead, DumpsRead}
 use Rattle.trace_lines.specs.parts.PieceDumps.{IsDumpRead, SendsRead, IsLeft, LinesCome, LinesEnd, LinesBegin}
 use Rattle.trace_lines.specs.parts.PieceDumps.{IsWaiting, ArePieceLines, SendsPiece}
 use Rattle.trace_lines.proofs.PieceLines.{nothing_comes, come_further, end_further, left_exists, both_fit}
@@ -38,6 +38,10 @@ kept_consumes : (a b : Option (List ℕ)) → Keeps a b → Consumes a b []
 kept_consumes None b k = tt
 kept_consumes (Some xs) None k = absurd k
 kept_consumes (Some xs) (Some ys) k = sym k
+
+consumed_none_more :
+    (a b c : Option (List ℕ)) (xs : List ℕ) → Consumes a b xs → Consumes b c [] → Consumes a c xs
+consumed_none_more a b c xs x y = subst (Consumes a c) (append-nil xs) (consumed_more a b c xs [] x y)
 
 -- all that a reader told, by what was read and what it has left
 consumed_parts :
@@ -109,7 +113,7 @@ pub ends_within :
     {a b c : Account} {before after : Option (List ℕ)} {s : FeedState} (last : Option (List ℕ))
     (piece lines : List ℕ) (status : ℕ) → SentSoFar a b before after s → Consumes after last piece →
     LinesEnd s piece status lines → TookOnly b c lines [] →
-    (text : List ℕ) × IsDumpRead before status text × TookOnly a c text []
+    (text : List ℕ) × IsDumpRead before last status text × TookOnly a c text []
 ends_within {a} {b} {c} {before} {after} {s} last piece lines status h used ends took =
     let read = h.read ++ piece in
     let all : LinesEnd new_feed read status (h.sent ++ lines) =
@@ -117,6 +121,7 @@ ends_within {a} {b} {c} {before} {after} {s} last piece lines status h used ends
       h.sent ++ lines,
       record {
         read = read;
+        consumed = consumed_more before after last h.read piece h.consumed used;
         of_read = subst (λ (x : List ℕ). IsDump false x status (h.sent ++ lines)) (append-nil read) (all []);
         of_all = λ bytes e.
             let p = consumed_parts before last bytes read e
@@ -131,7 +136,7 @@ pub ends_after :
     {a b c : Account} {before after : Option (List ℕ)} {s : FeedState} (last : Option (List ℕ)) (text : List ℕ)
     (status : ℕ) → SentSoFar a b before after s → Consumes after last [] → IsAtEnd last →
     IsLeft s [] status text → TookOnly b c text [] →
-    (whole : List ℕ) × IsDumpRead before status whole × TookOnly a c whole []
+    (whole : List ℕ) × IsDumpRead before last status whole × TookOnly a c whole []
 ends_after {a} {b} {c} {before} {after} {s} last text status h used end is took =
     let all : IsDump false (h.read ++ []) status (h.sent ++ text) = h.come [] status text is in
     let of_read : IsDump false h.read status (h.sent ++ text) =
@@ -139,6 +144,7 @@ ends_after {a} {b} {c} {before} {after} {s} last text status h used end is took 
       h.sent ++ text,
       record {
         read = h.read;
+        consumed = consumed_none_more before after last h.read h.consumed used;
         of_read = of_read;
         of_all = λ bytes e.
             let p = consumed_parts before last bytes (h.read ++ []) e
@@ -180,40 +186,64 @@ front_by {a} {b} c s read piece {sent} {bytes} others come e took (written, fron
   TookOnly-join a b c sent written [] faults took more,
 )
 
+-- the same of what was read, and no more
+front_read_by :
+    {a b : Account} (c : Account) (s : FeedState) {before last : Option (List ℕ)} (read piece : List ℕ)
+    {sent : List ℕ} → LinesCome new_feed read s sent → Consumes before last (read ++ piece) → TookOnly a b sent [] →
+    PrintsUpToFault (IsFrontOfDump (IsLeft s (piece ++ []))) b c → DumpsFrontOfRead before last a c
+front_read_by c s read piece come used took front = record {
+  read = read ++ piece;
+  consumed = used;
+  printed = front_by c s read piece [] come (ap (λ (x : List ℕ). read ++ x) (sym (append-nil piece))) took front;
+}
+
 -- a front of the lines of a piece
 pub front_of_piece :
     {a b c : Account} {before after : Option (List ℕ)} {s : FeedState} (last : Option (List ℕ)) (piece : List ℕ) →
     SentSoFar a b before after s → Consumes after last piece → PrintsUpToFault (LinesBegin s piece) b c →
-    DumpsFrontOfBytes before a c
-front_of_piece {a} {b} {c} {before} {after} {s} last piece h used (written, begins, faults, few, took) bytes e fits =
-    let p = consumed_parts before last bytes (h.read ++ piece) e
-    (consumed_more before after last h.read piece h.consumed used) in
-    let parts : bytes ≡ h.read ++ (piece ++ p.0) = p.2 ∙ append_assoc h.read piece p.0 in
-    let others : AreBytes p.0 = AreBytes-right (h.read ++ piece) p.0 (subst AreBytes p.2 fits) in
-    front_by c s h.read piece p.0 h.come parts h.took (written, begins p.0 others, faults, few, took)
+    DumpsFrontOfBytes before a c × DumpsFrontOfRead before last a c
+front_of_piece {a} {b} {c} {before} {after} {s} last piece h used (written, begins, faults, few, took) =
+    let both : Consumes before last (h.read ++ piece) =
+    consumed_more before after last h.read piece h.consumed used in (
+      λ bytes e fits.
+          let p = consumed_parts before last bytes (h.read ++ piece) e both in
+          let parts : bytes ≡ h.read ++ (piece ++ p.0) = p.2 ∙ append_assoc h.read piece p.0 in
+          let others : AreBytes p.0 = AreBytes-right (h.read ++ piece) p.0 (subst AreBytes p.2 fits) in
+          front_by c s h.read piece p.0 h.come parts h.took (written, begins p.0 others, faults, few, took),
+      front_read_by c s h.read piece h.come both h.took (written, begins [] (λ i. omega arith), faults, few, took),
+    )
 
 -- a front of the last line
 pub front_of_last :
     {a b c : Account} {before after : Option (List ℕ)} {s : FeedState} (last : Option (List ℕ)) →
     SentSoFar a b before after s → Consumes after last [] → IsAtEnd last →
-    PrintsUpToFault (IsFrontOfDump (IsLeft s [])) b c → DumpsFrontOfBytes before a c
-front_of_last {a} {b} {c} {before} {after} {s} last h used end front bytes e fits =
-    let p = consumed_parts before last bytes (h.read ++ []) e
-    (consumed_more before after last h.read [] h.consumed used) in
-    let parts : bytes ≡ h.read ++ ([] ++ []) =
-    p.2 ∙ append_assoc h.read [] p.0 ∙ ap (λ (x : List ℕ). h.read ++ x) (at_end last p.0 p.1 end) in
-    front_by c s h.read [] [] h.come parts h.took front
+    PrintsUpToFault (IsFrontOfDump (IsLeft s [])) b c
+    → DumpsFrontOfBytes before a c × DumpsFrontOfRead before last a c
+front_of_last {a} {b} {c} {before} {after} {s} last h used end front =
+    let both : Consumes before last (h.read ++ []) = consumed_more before after last h.read [] h.consumed used in (
+      λ bytes e fits.
+          let p = consumed_parts before last bytes (h.read ++ []) e both in
+          let parts : bytes ≡ h.read ++ ([] ++ []) =
+          p.2 ∙ append_assoc h.read [] p.0 ∙ ap (λ (x : List ℕ). h.read ++ x) (at_end last p.0 p.1 end) in
+          front_by c s h.read [] [] h.come parts h.took front,
+      front_read_by c s h.read [] h.come both h.took front,
+    )
 
 -- what was sent before a read failed, or when there were too many
 pub front_so_far :
     {a b : Account} {before after : Option (List ℕ)} {s : FeedState} → SentSoFar a b before after s →
-    DumpsFrontOfBytes before a b
-front_so_far {a} {b} {before} {after} {s} h bytes e fits =
-    let p = consumed_parts before after bytes h.read e h.consumed in
-    let others : AreBytes p.0 = AreBytes-right h.read p.0 (subst AreBytes p.2 fits) in
-    let left = left_exists s p.0 (both_fit s.kept p.0 h.waiting.fed.fits others) in
-    front_by b s h.read [] p.0 h.come p.2 h.took
-    ([], (left.status, left.text, left.is), [], omega arith, TookOnly-none b)
+    DumpsFrontOfBytes before a b × DumpsFrontOfRead before after a b
+front_so_far {a} {b} {before} {after} {s} h = (
+  λ bytes e fits.
+      let p = consumed_parts before after bytes h.read e h.consumed in
+      let others : AreBytes p.0 = AreBytes-right h.read p.0 (subst AreBytes p.2 fits) in
+      let left = left_exists s p.0 (both_fit s.kept p.0 h.waiting.fed.fits others) in
+      front_by b s h.read [] p.0 h.come p.2 h.took
+      ([], (left.status, left.text, left.is), [], omega arith, TookOnly-none b),
+  (let left = left_exists s [] (both_fit s.kept [] h.waiting.fed.fits (λ i. omega arith)) in
+      front_read_by b s h.read [] h.come (subst (Consumes before after) (sym (append-nil h.read)) h.consumed) h.took
+      ([], (left.status, left.text, left.is), [], omega arith, TookOnly-none b)),
+)
 
 -- ---- by the answers of calls
 
@@ -227,7 +257,7 @@ read_none a b buf n zero some (used, end) = (subst (λ (k : ℕ). Consumes a b (
 pub read_to_end :
     {E : Type 0} {a b : Account} {before after : Option (List ℕ)} {s : FeedState} (c : Account)
     (last : Option (List ℕ)) (r : Result ℕ E) → SentSoFar a b before after s → Consumes after last [] × IsAtEnd last →
-    Sends b c (IsLeft s []) r → SendsRead a c before r
+    Sends b c (IsLeft s []) r → SendsRead a c before last r
 read_to_end c last (Ok status) h (used, end) (text, is, took) = ends_after last text status h used end is took
 read_to_end c last (Err e) h (used, end) front = front_of_last last h used end front
 
@@ -235,7 +265,7 @@ read_to_end c last (Err e) h (used, end) front = front_of_last last h used end f
 pub piece_failed :
     {D E : Type 0} {a b : Account} {before after : Option (List ℕ)} {s : FeedState} (c : Account) (t : FeedState)
     (last : Option (List ℕ)) (piece : List ℕ) (e : D) (r : Result ℕ E) → IsErr r → SentSoFar a b before after s →
-    Consumes after last piece → SendsPiece b c s piece t (Err e) → SendsRead a c before r
+    Consumes after last piece → SendsPiece b c s piece t (Err e) → SendsRead a c before last r
 piece_failed c t last piece e (Ok status) i h used p = absurd cc
 piece_failed c t last piece e (Err x) i h used p = front_of_piece last piece h used p
 
@@ -245,7 +275,7 @@ pub piece_ends :
     (last : Option (List ℕ)) (piece : List ℕ) (status : ℕ) (end : Option ℕ) → end ≡ Some status →
     SentSoFar a b before after s → Consumes after last piece →
     (lines : List ℕ) × ArePieceLines s piece t lines end × TookOnly b c lines [] →
-    (text : List ℕ) × IsDumpRead before status text × TookOnly a c text []
+    (text : List ℕ) × IsDumpRead before last status text × TookOnly a c text []
 piece_ends {s = s} c t last piece status end is h used (lines, all, took) =
     ends_within last piece lines status h used (subst (ArePieceLines s piece t lines) is all) took
 
@@ -262,8 +292,8 @@ piece_goes_on {s = s} c t last piece end is h used (lines, all, took) =
 
 -- a dump that was sent and settled
 pub all_dumped :
-    {a b c : Account} {before : Option (List ℕ)} (status : ℕ) →
-    (text : List ℕ) × IsDumpRead before status text × TookOnly a b text [] → Took b c [] [] →
+    {a b c : Account} {before after : Option (List ℕ)} (status : ℕ) →
+    (text : List ℕ) × IsDumpRead before after status text × TookOnly a b text [] → Took b c [] [] →
     DumpsAll false before a c status
 all_dumped {a} {b} {c} status (text, is, took) settled bytes e = (
   text,
@@ -272,19 +302,40 @@ all_dumped {a} {b} {c} status (text, is, took) settled bytes e = (
       (Took-join a b c text [] [] [] took.took settled),
 )
 
+-- the same of what was read
+pub read_dumped :
+    {a b c : Account} {before after : Option (List ℕ)} (status : ℕ) →
+    (text : List ℕ) × IsDumpRead before after status text × TookOnly a b text [] → Took b c [] [] →
+    DumpsRead before after a c status
+read_dumped {a} {b} {c} status (text, is, took) settled = record {
+  read = is.read;
+  consumed = is.consumed;
+  printed = (
+    text,
+    is.of_read,
+    subst (λ (t : List ℕ). Took a c t []) (append-nil text) (Took-join a b c text [] [] [] took.took settled),
+  );
+}
+
 -- a dump that was sent ends with a status of dumps
 pub status_known :
-    {a b : Account} {before : Option (List ℕ)} (status : ℕ) →
-    (text : List ℕ) × IsDumpRead before status text × TookOnly a b text [] → status < failed_status
+    {a b : Account} {before after : Option (List ℕ)} (status : ℕ) →
+    (text : List ℕ) × IsDumpRead before after status text × TookOnly a b text [] → status < failed_status
 status_known status (text, is, took) = dump_status (Frames Owned) is.read status text is.of_read
 
 -- a dump that was sent to a writer that failed to settle
 pub dumped_unsettled :
-    {a b c : Account} {kind : ErrorKind} {before : Option (List ℕ)} (status : ℕ) →
-    (text : List ℕ) × IsDumpRead before status text × TookOnly a b text [] → TookOnly b c [] (kind ∷ []) →
-    DumpsFrontOfBytes before a c
-dumped_unsettled {a} {kind = kind} status (text, is, took) settled bytes e fits =
-    front_unsettled a (Frames Owned) bytes status (text, is.of_all bytes e, took) settled
+    {a b c : Account} {kind : ErrorKind} {before after : Option (List ℕ)} (status : ℕ) →
+    (text : List ℕ) × IsDumpRead before after status text × TookOnly a b text [] → TookOnly b c [] (kind ∷ []) →
+    DumpsFrontOfBytes before a c × DumpsFrontOfRead before after a c
+dumped_unsettled {a} {kind = kind} status (text, is, took) settled = (
+  λ bytes e fits. front_unsettled a (Frames Owned) bytes status (text, is.of_all bytes e, took) settled,
+  record {
+    read = is.read;
+    consumed = is.consumed;
+    printed = front_unsettled a (Frames Owned) is.read status (text, is.of_read, took) settled;
+  },
+)
 
 -- nothing was written
 pub nothing_dumped : (a : Account) (remaining : Option (List ℕ)) → DumpsFrontOfBytes remaining a a

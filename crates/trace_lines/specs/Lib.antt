@@ -1,6 +1,5 @@
 pub mod Appending
 pub mod Lines
-pub mod Holding
 pub mod ResolvedLines
 pub mod Dumps
 pub mod PieceDumps

@@ -4,7 +4,7 @@
 mod borrowed;
 pub mod dump;
 mod entries;
-mod lines;
+pub mod lines;
 pub mod pieces;
 mod plain;
 pub mod program;

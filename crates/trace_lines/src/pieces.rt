@@ -3,11 +3,12 @@
 ghost use Rattle.std.specs.Prelude.{◌≡◌, ◌≢◌, ◌≤◌, [], false, IfOk, OnOk, string_bytes};
 ghost use Rattle.trace_values.specs.Sending.{IsSettled};
 ghost use Rattle.trace_lines.specs.Dumps.{failed_status};
-ghost use Rattle.trace_lines.specs.PieceDumps.{DumpsFrontOfBytes};
+ghost use Rattle.trace_lines.specs.PieceDumps.{DumpsFrontOfBytes, DumpsFrontOfRead, DumpsRead};
 ghost use Rattle.trace_lines.specs.parts.PieceDumps.{IsFed, IsWaiting, AreNextLines, GathersPiece, IsLeft};
 ghost use Rattle.trace_lines.specs.parts.PieceDumps.{AppendsEnd, AppendsFirst, PulledLines, SendsPiece, SendsRead};
 ghost use Rattle.trace_lines.specs.parts.PieceDumps.{StuckLines};
 ghost use Rattle.dial9_trace_format.specs.DecodedFrames.{item_of, next_as};
+ghost use Rattle.dial9_trace_format.specs.Feeding.{new_feed};
 ghost use Rattle.trace_lines.specs.parts.Sent.{Sends};
 ghost use Rattle.trace_lines.specs.Program.{DumpsAll};
 
@@ -51,8 +52,39 @@ pub fn dump_pieces<R: Read, W: TraceWrite>(alloc: Global, input: &mut R, out: &m
     ensures known { result ≤ failed_status }
     ensures front { result ≡ failed_status
         → DumpsFrontOfBytes (R.remaining input.old) (W.told out.old) (W.told out.new) }
+    ensures read { result ≢ failed_status
+        → DumpsRead (R.remaining input.old) (R.remaining input.new) (W.told out.old)
+        (W.told out.new) result }
+    ensures front_read { result ≡ failed_status
+        → DumpsFrontOfRead (R.remaining input.old) (R.remaining input.new) (W.told out.old)
+        (W.told out.new) }
 {
-    match send_pieces(alloc, input, out) {
+    dump_fed(alloc, &mut FeedDecoder::new(alloc), input, out)
+}
+
+/// Does the same with a decoder of the caller's, that was fed nothing. It tells afterwards why the dump ends:
+/// `FeedDecoder::{fault, stuck, cause}`.
+pub fn dump_fed<R: Read, W: TraceWrite>(
+    alloc: Global,
+    decoder: &mut FeedDecoder,
+    input: &mut R,
+    out: &mut W,
+) -> u8
+    requires unfed { decoder.old.state ≡ new_feed }
+    ensures lines { result ≢ failed_status
+        → DumpsAll false (R.remaining input.old) (W.told out.old) (W.told out.new) result }
+    ensures settled { result ≢ failed_status → IsSettled (W.told out.new) }
+    ensures known { result ≤ failed_status }
+    ensures front { result ≡ failed_status
+        → DumpsFrontOfBytes (R.remaining input.old) (W.told out.old) (W.told out.new) }
+    ensures read { result ≢ failed_status
+        → DumpsRead (R.remaining input.old) (R.remaining input.new) (W.told out.old)
+        (W.told out.new) result }
+    ensures front_read { result ≡ failed_status
+        → DumpsFrontOfRead (R.remaining input.old) (R.remaining input.new) (W.told out.old)
+        (W.told out.new) }
+{
+    match send_pieces(alloc, decoder, input, out) {
         Ok(status) => match out.settle() {
             Ok(()) => status,
             Err(_) => FAILED,
@@ -64,18 +96,20 @@ pub fn dump_pieces<R: Read, W: TraceWrite>(alloc: Global, input: &mut R, out: &m
 // Sends all lines.
 fn send_pieces<R: Read, W: TraceWrite>(
     alloc: Global,
+    decoder: &mut FeedDecoder,
     input: &mut R,
     out: &mut W,
 ) -> Result<u8, DumpError>
-    ensures { SendsRead (W.told out.old) (W.told out.new) (R.remaining input.old) result }
+    requires { decoder.old.state ≡ new_feed }
+    ensures { SendsRead (W.told out.old) (W.told out.new) (R.remaining input.old)
+        (R.remaining input.new) result }
 {
-    let mut decoder = FeedDecoder::new(alloc);
     let mut piece = [0; PIECE];
     'reads: for _ in 0..MOST_READS {
         match input.read(&mut piece) {
-            Ok(0) => return send_last(alloc, &decoder, out),
+            Ok(0) => return send_last(alloc, decoder, out),
             Ok(count) => {
-                if let Some(status) = send_piece(alloc, &mut decoder, &piece[..count], out)? {
+                if let Some(status) = send_piece(alloc, decoder, &piece[..count], out)? {
                     return Ok(status);
                 }
             }
@@ -95,8 +129,8 @@ fn send_last<W: TraceWrite>(
     decoder: &FeedDecoder,
     out: &mut W,
 ) -> Result<u8, DumpError>
-    requires { IsWaiting decoder.now }
-    ensures { Sends (W.told out.old) (W.told out.new) (IsLeft decoder.now []) result }
+    requires { IsWaiting decoder.now.state }
+    ensures { Sends (W.told out.old) (W.told out.new) (IsLeft decoder.now.state []) result }
 {
     let mut line = String::new(alloc);
     let status = push_last_line(&mut line, decoder)?;
@@ -106,9 +140,9 @@ fn send_last<W: TraceWrite>(
 
 // Appends the last line where the input has ended, and answers the status.
 fn push_last_line(line: &mut String, decoder: &FeedDecoder) -> Result<u8, AllocError>
-    requires waiting { IsWaiting decoder.now }
+    requires waiting { IsWaiting decoder.now.state }
     requires empty { string_bytes line.old ≡ [] }
-    ensures { IfOk result (λ status. IsLeft decoder.now [] status (string_bytes line.new)) }
+    ensures { IfOk result (λ status. IsLeft decoder.now.state [] status (string_bytes line.new)) }
 {
     let Some(_) = decoder.version() else {
         push_no_header_line(line)?;
@@ -130,9 +164,9 @@ fn send_piece<W: TraceWrite>(
     piece: &[u8],
     out: &mut W,
 ) -> Result<Option<u8>, DumpError>
-    requires { IsWaiting decoder.old }
-    ensures { SendsPiece (W.told out.old) (W.told out.new) decoder.old piece.now decoder.new
-        result }
+    requires { IsWaiting decoder.old.state }
+    ensures { SendsPiece (W.told out.old) (W.told out.new) decoder.old.state piece.now
+        decoder.new.state result }
 {
     let mut held = String::new(alloc);
     let gathered = gather_piece(alloc, decoder, piece, &mut held);
@@ -147,9 +181,10 @@ fn gather_piece(
     piece: &[u8],
     held: &mut String,
 ) -> Result<Option<u8>, AllocError>
-    requires waiting { IsWaiting decoder.old }
+    requires waiting { IsWaiting decoder.old.state }
     requires empty { string_bytes held.old ≡ [] }
-    ensures { GathersPiece decoder.old piece.now decoder.new (string_bytes held.new) result }
+    ensures { GathersPiece decoder.old.state piece.now decoder.new.state (string_bytes held.new)
+        result }
 {
     let Ok(()) = decoder.push(piece) else {
         return Err(AllocError);
@@ -163,9 +198,9 @@ fn gather_kept(
     decoder: &mut FeedDecoder,
     held: &mut String,
 ) -> Result<Option<u8>, AllocError>
-    requires fed { IsFed decoder.old }
+    requires fed { IsFed decoder.old.state }
     requires empty { string_bytes held.old ≡ [] }
-    ensures { GathersPiece decoder.old [] decoder.new (string_bytes held.new) result }
+    ensures { GathersPiece decoder.old.state [] decoder.new.state (string_bytes held.new) result }
 {
     let mut line = String::new(alloc);
     'lines: loop {
@@ -183,9 +218,10 @@ fn gather_kept(
 // Appends the line of the next frame, if one is whole, and before it the first line, where the header was read with
 // it; or the last line.
 fn push_next_lines(line: &mut String, decoder: &mut FeedDecoder) -> Result<Next, AllocError>
-    requires fed { IsFed decoder.old }
+    requires fed { IsFed decoder.old.state }
     requires empty { string_bytes line.old ≡ [] }
-    ensures { IfOk result (AreNextLines decoder.old decoder.new (string_bytes line.new)) }
+    ensures { IfOk result
+        (AreNextLines decoder.old.state decoder.new.state (string_bytes line.new)) }
 {
     let before = decoder.version();
     let frame = decoder.next_frame();
@@ -199,7 +235,7 @@ fn push_next_lines(line: &mut String, decoder: &mut FeedDecoder) -> Result<Next,
 // Appends the last line where no frame comes, whatever is read.
 fn push_stuck_line(line: &mut String, decoder: &FeedDecoder) -> Result<Next, AllocError>
     ensures { IfOk result
-        (StuckLines decoder.now (string_bytes line.old) (string_bytes line.new)) }
+        (StuckLines decoder.now.state (string_bytes line.old) (string_bytes line.new)) }
 {
     let Some(_) = decoder.stuck() else {
         return Ok(Next::Wait);

@@ -3,13 +3,13 @@
 
 ghost use Rattle.std.specs.Prelude.{◌++◌, ℕ, codes, map as list_map};
 ghost use Rattle.std.specs.List.{join_by};
-ghost use Rattle.trace_values.specs.Flat.{flat_form};
+ghost use Rattle.trace_values.specs.parts.types.Flat.{flat_form};
 ghost use Rattle.trace_values.specs.Reading.{values_to_items, values_to_pairs};
 ghost use Rattle.trace_values.specs.Values.{Value, list, map};
 ghost use Rattle.trace_values.specs.ValueViews.{view};
 ghost use Rattle.trace_values.specs.declared.types.field_value.FieldValue.{size-FieldValue};
 ghost use Rattle.trace_lines.specs.Appending.{AppendsText};
-ghost use Rattle.trace_lines.specs.Holding.{Holds};
+ghost use Rattle.trace_lines.specs.parts.Holding.{HoldsInside};
 ghost use Rattle.trace_lines.specs.Lines.{value_text};
 
 use crate::plain::{
@@ -42,7 +42,7 @@ pub(crate) trait LineValue: Sized {
 
     /// The values that it holds.
     fn held(&self) -> Held<'_, Self>
-        ensures { Holds value depth self.now result };
+        ensures { HoldsInside value depth self.now result };
 
     /// Appends a value that holds no others, and `None` for one that does.
     fn push_flat(&self, out: &mut String) -> Result<(), AllocError>

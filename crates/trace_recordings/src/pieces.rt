@@ -153,7 +153,7 @@ fn feed_one(
     frames: &mut Vec<DecodedFrame>,
 ) -> Result<(), AllocError>
     ensures { OnOk result
-        (FeedsOne decoder.old piece.now decoder.new frames.old.items frames.new.items) }
+        (FeedsOne decoder.old.state piece.now decoder.new.state frames.old.items frames.new.items) }
 {
     match decoder.feed(piece) {
         Ok(mut given) => frames.append(&mut given),

@@ -419,10 +419,8 @@ fn make_on_encoder(
             values,
         } => {
             let sample = sample_under(&handles.types, line, *handle)?;
-            match write_sample(alloc, encoder, sample, *time, values) {
-                Ok(reply) => Ok(reply),
-                Err(unheld) => Err(unheld_on(line, unheld)),
-            }
+            let answer = write_sample(alloc, encoder, sample, *time, values);
+            answer.map_err(|unheld| unheld_on(line, unheld))
         }
         ScriptCall::InternString { text } => Ok(text_reply(encoder.intern_string(text))),
         ScriptCall::InternStack { frames } => Ok(stack_reply(encoder.intern_stack_frames(frames))),

@@ -19,7 +19,7 @@ use Rattle.dial9_trace_format.specs.Resolving.{in_full}
 use Rattle.dial9_trace_format.specs.ShownEvents.{ShownEvent}
 use Rattle.trace_values.proofs.CompareLoops.{ElementAt}
 use Rattle.trace_stats.specs.Summaries.{IsSummaryOf, most_counted}
-use Rattle.trace_stats.specs.Events.{Counted, value_at, column, AreFieldsOf, IsSchemaOf}
+use Rattle.trace_stats.specs.Events.{Counted, full_value, column, AreFieldsOf, IsSchemaOf}
 use Rattle.trace_stats.specs.parts.Events.{AddsAt, AddsValues, IsFullAt}
 use Rattle.trace_stats.specs.Fields.{IsFieldOf, measure_of}
 use Rattle.trace_stats.specs.declared.measure.Measure.{Measure}
@@ -32,7 +32,7 @@ use Rattle.trace_stats.specs.declared.schema.SchemaStats.{SchemaStats}
 pub record AddedBelow (i : ℕ) (e : ShownEvent) (old new : List FieldStats) : Type 0 where
   pub count : length new ≡ length old
   pub below : (k : ℕ) (d : FieldStats) (vs : List Value) → k < i → IsFieldOf vs (get_or old k d) →
-      IsFieldOf (vs ++ value_at k e) (get_or new k d)
+      IsFieldOf (vs ++ full_value k e) (get_or new k d)
   pub rest : (k : ℕ) (d : FieldStats) → i ≤ k → get_or new k d ≡ get_or old k d
 
 -- before the first index
@@ -46,15 +46,15 @@ none_below e fs = record {
 below_next :
     {i : ℕ} {e : ShownEvent} {old mid new : List FieldStats} → AddedBelow i e old mid → AddsAt i e mid new →
     (k : ℕ) (d : FieldStats) {vs : List Value} → k < i + 1 → IsFieldOf vs (get_or old k d) →
-    (k ≡ i) ⊎ (k ≡ i → ⊥) → IsFieldOf (vs ++ value_at k e) (get_or new k d)
+    (k ≡ i) ⊎ (k ≡ i → ⊥) → IsFieldOf (vs ++ full_value k e) (get_or new k d)
 below_next {i} {e} {old} {mid} {new} s one k d {vs} lt h (inl is) =
     let at_i : IsFieldOf vs (get_or old i d) = subst (λ (j : ℕ). IsFieldOf vs (get_or old j d)) is h in
     let before : IsFieldOf vs (get_or mid i d) =
     subst (λ (f : FieldStats). IsFieldOf vs f) (sym (s.rest i d (omega arith))) at_i in
-    subst (λ (j : ℕ). IsFieldOf (vs ++ value_at j e) (get_or new j d)) (sym is) (one.here d vs before)
+    subst (λ (j : ℕ). IsFieldOf (vs ++ full_value j e) (get_or new j d)) (sym is) (one.here d vs before)
 below_next {i} {e} s one k d {vs} lt h (inr other) =
     let less : k < i = omega arith in
-    subst (λ (f : FieldStats). IsFieldOf (vs ++ value_at k e) f) (sym (one.others k d other)) (s.below k d vs less h)
+    subst (λ (f : FieldStats). IsFieldOf (vs ++ full_value k e) f) (sym (one.others k d other)) (s.below k d vs less h)
 
 -- the value of the next index was added too
 pub one_below :
@@ -97,17 +97,17 @@ one_made n fs gs f s is h =
 
 pub value_here :
     (e : ShownEvent) (i : ℕ) (v : Value) → i < length e.values → v ≡ get_or e.values i v →
-    value_at i e ≡ in_full e.pools v ∷ []
+    full_value i e ≡ in_full e.pools v ∷ []
 value_here e i v lt is =
     ap (λ (l : List Value). list_map (in_full e.pools) (take 1 l))
     (drop-cons e.values i v lt ∙ ap (λ (x : Value). x ∷ drop (suc i) e.values) (sym is))
 
 -- no value, where the event has none of the index
-pub no_value : (e : ShownEvent) (i : ℕ) → length e.values ≤ i → value_at i e ≡ []
+pub no_value : (e : ShownEvent) (i : ℕ) → length e.values ≤ i → full_value i e ≡ []
 no_value e i le = ap (λ (l : List Value). list_map (in_full e.pools) (take 1 l)) (drop_all i e.values le)
 
 -- nothing was added, where there is no value of the index
-pub nothing_at : (i : ℕ) (e : ShownEvent) (fs : List FieldStats) → value_at i e ≡ [] → AddsAt i e fs fs
+pub nothing_at : (i : ℕ) (e : ShownEvent) (fs : List FieldStats) → full_value i e ≡ [] → AddsAt i e fs fs
 nothing_at i e fs none = record {
   here = λ d vs h. subst (λ (l : List Value). IsFieldOf l (get_or fs i d))
       (sym (ap (λ (l : List Value). vs ++ l) none ∙ append-nil vs)) h;
@@ -117,7 +117,7 @@ nothing_at i e fs none = record {
 pub one_at :
     (i : ℕ) (e : ShownEvent) {v : Value} (old : List FieldStats) {new : List FieldStats} {f : FieldStats}
     (g : FieldStats) → i < length old →
-    value_at i e ≡ v ∷ [] → f ≡ get_or old i f → new ≡ set old i g →
+    full_value i e ≡ v ∷ [] → f ≡ get_or old i f → new ≡ set old i g →
     ((vs : List Value) → IsFieldOf vs f → IsFieldOf (vs ++ v ∷ []) g) → AddsAt i e old new
 one_at i e {v} old {new} {f} g lt one at put add = record {
   here = λ d vs h.
@@ -140,7 +140,7 @@ columns_more n es c old new s add = record {
   count = add.count ∙ s.count;
   columns = λ i d lt.
       subst (λ (vs : List Value). IsFieldOf vs (get_or new i d))
-      (flat_map_more (λ (x : Counted). value_at i x.event) [] es c)
+      (flat_map_more (λ (x : Counted). full_value i x.event) [] es c)
       (add.added i d (column i es) (omega (arith, lt, s.count)) (s.columns i d lt));
 }
 
@@ -184,7 +184,7 @@ schema_made s n times bytes fields is = record {
 -- the value of an index, by where it was found
 pub value_in :
     (e : ShownEvent) (fs : List FieldValueRef) (i : ℕ) (x : FieldValueRef) → e.values ≡ ref_views fs → i < length fs →
-    x ≡ get_or fs i x → value_at i e ≡ in_full e.pools (ref_view x) ∷ []
+    x ≡ get_or fs i x → full_value i e ≡ in_full e.pools (ref_view x) ∷ []
 value_in e fs i x is lt at =
     let many : length e.values ≡ length fs = ap length is ∙ length-map fs ref_view in
     let here : ref_view x ≡ get_or e.values i (ref_view x) =
@@ -195,7 +195,7 @@ value_in e fs i x is lt at =
 -- the same of values that own their memory
 pub owned_value_in :
     (e : ShownEvent) (vs : List FieldValue) (i : ℕ) (x : FieldValue) → e.values ≡ views vs → i < length vs →
-    x ≡ get_or vs i x → value_at i e ≡ in_full e.pools (view x) ∷ []
+    x ≡ get_or vs i x → full_value i e ≡ in_full e.pools (view x) ∷ []
 owned_value_in e vs i x is lt at =
     let many : length e.values ≡ length vs = ap length is ∙ length-map vs view in
     let here : view x ≡ get_or e.values i (view x) =
@@ -207,7 +207,7 @@ pub one_added :
     {E : Type 0} (r : Result (Unit {0}) E) (i : ℕ) (e : ShownEvent) {v : Value} (old : List FieldStats)
     {new : List FieldStats}
     {f : FieldStats} (g : FieldStats) {m : Measure} → ElementAt old i f →
-    value_at i e ≡ v ∷ [] → new ≡ set old i g → m ≡ measure_of v →
+    full_value i e ≡ v ∷ [] → new ≡ set old i g → m ≡ measure_of v →
     OnOk r ((vs : List Value) (w : Value) → m ≡ measure_of w → IsFieldOf vs f → IsFieldOf (vs ++ w ∷ []) g) →
     OnOk r (AddsAt i e old new)
 one_added (Ok u) i e {v} old {new} {f} g at one put is add =
@@ -227,7 +227,7 @@ column_few i [] = omega arith
 column_few i (c ∷ es) =
     omega (
       arith,
-      length-append (value_at i c.event) (column i es),
+      length-append (full_value i c.event) (column i es),
       few (in_full c.event.pools) (drop i c.event.values),
       column_few i es,
     )

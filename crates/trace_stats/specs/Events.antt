@@ -15,25 +15,21 @@ pub record Counted : Type 0 where
   pub event : ShownEvent
   pub bytes : ℕ
 
-abbrev pub counted : ShownEvent → ℕ → Counted
-counted e n = record { event = e; bytes = n }
+abbrev pub counted_event : ShownEvent → ℕ → Counted
+counted_event e n = record { event = e; bytes = n }
 
 -- the value of an index of an event, with what the pools hold in place of ids; none where it has no such value
-abbrev pub value_at : ℕ → ShownEvent → List Value
-value_at i e = list_map (in_full e.pools) (take 1 (drop i e.values))
+abbrev pub full_value : ℕ → ShownEvent → List Value
+full_value i e = list_map (in_full e.pools) (take 1 (drop i e.values))
 
 -- the values of an index of each event
 abbrev pub column : ℕ → List Counted → List Value
-column i es = flat_map (λ c. value_at i c.event) es
+column i es = flat_map (λ c. full_value i c.event) es
 
 -- so many fields, of each what is kept of the values of its index
 pub record AreFieldsOf (n : ℕ) (es : List Counted) (fs : List FieldStats) : Type 0 where
   pub count : length fs ≡ n
   pub columns : (i : ℕ) (d : FieldStats) → i < n → IsFieldOf (column i es) (get_or fs i d)
-
--- a schema without its annotations
-abbrev pub bare : Entry → Entry
-bare e = record { name = e.name; fields = e.fields; annotations = [] }
 
 -- the summaries of the events' times and of their bytes, and what is kept of each field
 pub record IsSchemaOf (es : List Counted) (s : SchemaStats) : Type 0 where

@@ -1,7 +1,6 @@
 pub mod Summaries
 pub mod Fields
 pub mod Events
-pub mod OwnedEvents
 pub mod Traces
 pub mod Refusals
 pub mod parts

@@ -1,13 +1,10 @@
 -- What is kept of the events of a trace.
 use Rattle.std.specs.Prelude.{◌≡◌, Bool, if◌then◌else◌, List, [], ◌∷◌, ◌++◌, map, filter, fold, All}
 use Rattle.std.specs.List.{list_any}
-use Rattle.trace_wire.specs.Schemas.{Entry, same_entry}
-use Rattle.trace_stats.specs.Events.{Counted, bare, IsSchemaOf}
+use Rattle.trace_wire.specs.Schemas.{Entry}
+use Rattle.trace_events.specs.Schemas.{bare, is_same_schema}
+use Rattle.trace_stats.specs.Events.{Counted, IsSchemaOf}
 use Rattle.trace_stats.specs.declared.trace.TraceStats.{TraceStats}
-
--- the same name and the same fields
-abbrev pub is_same_schema : Entry → Entry → Bool
-is_same_schema a b = same_entry (bare a) (bare b)
 
 -- an event is of this schema
 abbrev pub is_of : Entry → Counted → Bool

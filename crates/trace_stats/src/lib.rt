@@ -1,7 +1,6 @@
 //! What the events of a trace add up to (docs/MODEL.md, "Statistics").
 #![tactic(auto)]
 
-pub mod event;
 pub mod field;
 pub mod full;
 mod measure;

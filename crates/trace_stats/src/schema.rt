@@ -3,8 +3,8 @@
 ghost use Rattle.std.specs.Prelude.{◌≡◌, ◌<◌, ◌≤◌, ◌++◌, ◌∷◌, [], List, IfOk, OnOk, OnErr, length};
 ghost use Rattle.dial9_trace_format.specs.ShownEvents.{shown_event};
 ghost use Rattle.trace_stats.specs.Summaries.{most_counted};
-ghost use Rattle.trace_stats.specs.Events.{Counted, counted, bare, AreFieldsOf, IsSchemaOf};
-ghost use Rattle.trace_stats.specs.Traces.{is_same_schema};
+ghost use Rattle.trace_stats.specs.Events.{Counted, counted_event, AreFieldsOf, IsSchemaOf};
+ghost use Rattle.trace_events.specs.Schemas.{bare, is_same_schema};
 ghost use Rattle.trace_stats.specs.parts.Events.{AddsAt, AddsValues, IsFullAt, AreFull};
 
 use crate::field::FieldStats;
@@ -13,6 +13,7 @@ use crate::measure::measure_of;
 use crate::summary::Summary;
 use dial9_trace_format::decoder::RawEvent;
 use std::alloc::{AllocError, Global};
+use trace_events::schema::is_same_schema;
 use trace_wire::schema::SchemaEntry;
 
 mod owned;
@@ -48,7 +49,7 @@ impl SchemaStats {
         ensures schema { self.new.schema ≡ self.old.schema }
         ensures added { OnOk result
             ((es : List Counted) → IsSchemaOf es self.old
-            → IsSchemaOf (es ++ counted (shown_event event.now) bytes ∷ []) self.new) }
+            → IsSchemaOf (es ++ counted_event (shown_event event.now) bytes ∷ []) self.new) }
         ensures full { OnErr result
             ((es : List Counted) → IsSchemaOf es self.old → most_counted ≤ length es) }
     {
@@ -62,7 +63,7 @@ impl SchemaStats {
     pub(crate) fn is_of(&self, schema: &SchemaEntry) -> bool
         ensures { result ≡ is_same_schema self.now.schema schema.now }
     {
-        self.schema.name() == schema.name() && self.schema.fields() == schema.fields()
+        is_same_schema(&self.schema, schema)
     }
 
     /// The schema, without its annotations.

@@ -1,12 +1,12 @@
 //! Traces written by hand after docs/FORMAT.md, and what their events add up to, worked out by hand.
 
-use crate::event::OwnedEvent;
 use crate::schema::SchemaStats;
 use crate::summary::Summary;
 use crate::trace::TraceStats;
 use dial9_trace_format::decoder::{Decoder, EventSink, RawEvent};
 use std::alloc::{AllocError, Global};
 use std::test::Fail;
+use trace_events::event::OwnedEvent;
 use trace_values::types::FieldType;
 use trace_wire::schema::{FieldDef, SchemaEntry};
 

@@ -3,18 +3,18 @@
 ghost use Rattle.std.specs.Prelude.{◌≡◌, ◌<◌, ◌++◌, ◌∷◌, [], true, false, List, length, IfOk, OnOk, OnErr, IfErr};
 ghost use Rattle.std.specs.Prelude.{IfNone, IfSome};
 ghost use Rattle.dial9_trace_format.specs.ShownEvents.{shown_event};
-ghost use Rattle.trace_stats.specs.Events.{Counted, counted};
-ghost use Rattle.trace_stats.specs.OwnedEvents.{owned_event};
+ghost use Rattle.trace_stats.specs.Events.{Counted, counted_event};
+ghost use Rattle.trace_events.specs.OwnedEvents.{owned_event};
 ghost use Rattle.trace_stats.specs.Refusals.{RefusesEvent};
 ghost use Rattle.trace_stats.specs.Traces.{AreStatsOf};
 ghost use Rattle.trace_stats.specs.parts.Places.{IsPlaceOf, IsNoPlaceOf, HasNoPlace, FindsPlace, answer_of};
 
-use crate::event::OwnedEvent;
 use crate::full::Full;
 use crate::schema::SchemaStats;
 use dial9_trace_format::decoder::RawEvent;
 use std::alloc::{AllocError, Global};
 use thiserror::Error;
+use trace_events::event::OwnedEvent;
 use trace_wire::schema::{SchemaEntry, WireTypeId};
 
 // How many places of schemas are looked at first, by wire id.
@@ -68,7 +68,7 @@ impl TraceStats {
     pub fn add(&mut self, event: &RawEvent<'_, '_>, bytes: u64) -> Result<(), StatsError>
         ensures added { OnOk result
             ((es : List Counted) → AreStatsOf es self.old
-            → AreStatsOf (es ++ counted (shown_event event.now) bytes ∷ []) self.new) }
+            → AreStatsOf (es ++ counted_event (shown_event event.now) bytes ∷ []) self.new) }
         ensures refused { IfErr result (RefusesEvent self.old self.new) }
     {
         let place = self.place_for(event.type_id, event.schema)?;
@@ -79,7 +79,7 @@ impl TraceStats {
     pub fn add_owned(&mut self, event: &OwnedEvent<'_>, bytes: u64) -> Result<(), StatsError>
         ensures added { OnOk result
             ((es : List Counted) → AreStatsOf es self.old
-            → AreStatsOf (es ++ counted (owned_event event.now) bytes ∷ []) self.new) }
+            → AreStatsOf (es ++ counted_event (owned_event event.now) bytes ∷ []) self.new) }
         ensures refused { IfErr result (RefusesEvent self.old self.new) }
     {
         let place = self.place_for(event.type_id, event.schema)?;

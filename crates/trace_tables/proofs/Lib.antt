@@ -2,6 +2,6 @@ pub mod CopiedOption
 pub mod SortedEntries
 pub mod MapLemmas
 pub mod DenseLemmas
-pub mod UsedLemmas
+pub mod PlacedLemmas
 pub mod TreeLemmas
 pub mod HashedLemmas

@@ -1,3 +1,4 @@
 pub mod Dense
+pub mod Hashed
 pub mod Interned
-pub mod Used
+pub mod Placed

@@ -38,6 +38,13 @@ fn make_call<W: TraceWrite + Drop>(
             Ok(())
         }
         Call::WriteEvent(schema, time, values) => encoder.write_event(schema, *time, values),
+        Call::RegisterAt(slot, schema) => {
+            encoder.register_at(*slot, schema)?;
+            Ok(())
+        }
+        Call::WriteEventAt(slot, schema, time, values) => {
+            encoder.write_event_at(*slot, schema, *time, values)
+        }
         Call::InternString(text) => {
             encoder.intern_string(text)?;
             Ok(())

@@ -61,6 +61,35 @@ impl Schema {
         self
     }
 
+    // A schema that was read.
+    pub(crate) fn from_parts(
+        name: String,
+        fields: Vec<(String, u8)>,
+        annotations: Vec<(u16, String, String)>,
+    ) -> Schema {
+        Schema { name, fields, annotations }
+    }
+
+    /// Its name.
+    pub fn name(&self) -> &str {
+        &self.name
+    }
+
+    /// The names of its fields, in order.
+    pub fn field_names(&self) -> impl Iterator<Item = &str> {
+        self.fields.iter().map(|(name, _)| name.as_str())
+    }
+
+    /// The tags of the types of its fields, in order (docs/FORMAT.md, "Field types").
+    pub fn field_tags(&self) -> impl Iterator<Item = u8> + '_ {
+        self.fields.iter().map(|(_, tag)| *tag)
+    }
+
+    /// Its annotations, in order: the index of a field, a key and a value.
+    pub fn annotations(&self) -> impl Iterator<Item = (u16, &str, &str)> {
+        self.annotations.iter().map(|(field, key, value)| (*field, key.as_str(), value.as_str()))
+    }
+
     fn put(&self, number: u16, out: &mut Vec<u8>) {
         out.push(1);
         out.extend_from_slice(&number.to_le_bytes());

@@ -26,6 +26,7 @@ pub enum Cause {
     NoFrame,
     SchemaConflict,
     NoHeader,
+    NoState,
     /// A number that these calls do not answer.
     Other(u32),
 }
@@ -53,6 +54,7 @@ impl Cause {
             56 => Cause::NoFrame,
             57 => Cause::SchemaConflict,
             58 => Cause::NoHeader,
+            60 => Cause::NoState,
             other => Cause::Other(other),
         }
     }
@@ -81,6 +83,7 @@ impl fmt::Display for Cause {
             Cause::NoFrame => "no frame stands there",
             Cause::SchemaConflict => "a wire id stands for another schema",
             Cause::NoHeader => "no header stands there",
+            Cause::NoState => "no state stands there",
             Cause::Other(code) => return write!(f, "number {code}"),
         })
     }

@@ -22,6 +22,6 @@ mod error;
 mod reading;
 
 pub use batch::{Batch, FieldType, Recorder, Schema, Value};
-pub use door::{check, dump, record_batch, Dump};
+pub use door::{check, dump, read_batch, record_batch, Dump, ReadBatch};
 pub use error::{Cause, Error};
 pub use reading::{events, Event, Events, ReadValue};

@@ -1,6 +1,6 @@
 //! The Rust door: events of each type, refusals, recorded traces.
 
-use gotymbe_door::{check, dump, events, Cause, Error, FieldType, ReadValue, Recorder, Schema, Value};
+use gotymbe_door::{check, dump, events, read_batch, Cause, Error, Event, FieldType, ReadValue, Recorder, Schema, Value};
 use std::path::Path;
 
 fn all_types() -> Schema {
@@ -76,15 +76,16 @@ fn batches_join() -> Result<(), Error> {
         recorder.event(&tick, n * 1_000_000, &[Value::Number(n)])?;
     }
     let trace = recorder.finish()?;
-    let read = events(&trace)?;
-    assert!(read.stop().is_none());
-    for (n, event) in read.enumerate() {
-        assert_eq!(event.get("n"), Some(&ReadValue::Number(n as u64)));
+    let mut read = events(&trace)?;
+    for n in 0..1000 {
+        assert_eq!(read.next().unwrap().get("n"), Some(&ReadValue::Number(n)));
     }
+    assert!(read.next().is_none() && read.stop().is_none());
     let torn = &trace[..trace.len() - 1];
-    let read = events(torn)?;
-    assert!(matches!(read.stop(), Some(Error::Trace { .. })));
-    assert_eq!(read.count(), 999);
+    let mut read = events(torn)?;
+    assert_eq!(read.by_ref().count(), 999);
+    assert!(matches!(read.stop(), Some(Error::Trace { cause: Cause::TruncatedValue, place, .. }) if *place < torn.len()));
+    assert_eq!(read.version(), 1);
     Ok(())
 }
 
@@ -99,6 +100,14 @@ fn refusals() {
     }
     match check(b"nothing") {
         Err(Error::Trace { cause: Cause::NoHeader, .. }) => {}
+        other => panic!("{other:?}"),
+    }
+    match events(b"nothing") {
+        Err(Error::Trace { cause: Cause::NoHeader, .. }) => {}
+        other => panic!("{other:?}"),
+    }
+    match read_batch(b"nothing", b"nothing", 1) {
+        Err(Error::Trace { cause: Cause::NoState, .. }) => {}
         other => panic!("{other:?}"),
     }
     let text = Error::Batch { cause: Cause::ValueCount, record: 3, detail: 0 }.to_string();
@@ -117,10 +126,118 @@ fn parts(recording: &str) -> Vec<(&str, Vec<&str>)> {
         .collect()
 }
 
+// A text as lines of dumps show it (docs/FORMAT.md, "Dumps").
+fn quoted(bytes: &[u8]) -> String {
+    let shown = |byte: &u8| match byte {
+        b'"' | b'\\' => format!("\\x{byte:02X}"),
+        0x20..=0x7e => char::from(*byte).to_string(),
+        _ => format!("\\x{byte:02X}"),
+    };
+    format!("\"{}\"", bytes.iter().map(shown).collect::<String>())
+}
+
+fn joined(parts: impl Iterator<Item = String>) -> String {
+    parts.collect::<Vec<_>>().join(",")
+}
+
+fn shown(value: &ReadValue) -> String {
+    match value {
+        ReadValue::Integer(number) => format!("I64:{number}"),
+        ReadValue::Number(number) => format!("Varint:{number}"),
+        ReadValue::Float(number) => format!("F64:0x{:016x}", number.to_bits()),
+        ReadValue::Bool(truth) => format!("Bool:{truth}"),
+        ReadValue::Text(text) => format!("String:{}", quoted(text.as_bytes())),
+        ReadValue::Bytes(bytes) => format!("Bytes:{}", quoted(bytes)),
+        ReadValue::Stack(addresses) => {
+            format!("StackFrames:[{}]", joined(addresses.iter().map(|address| format!("0x{address:x}"))))
+        }
+        ReadValue::Texts(pairs) => {
+            let pair = |(key, text): &(String, String)| format!("{}={}", quoted(key.as_bytes()), quoted(text.as_bytes()));
+            format!("StringMap:{{{}}}", joined(pairs.iter().map(pair)))
+        }
+        ReadValue::List(items) => format!("List:[{}]", joined(items.iter().map(shown))),
+        ReadValue::Map(pairs) => {
+            format!("Map:{{{}}}", joined(pairs.iter().map(|(key, value)| format!("{}={}", shown(key), shown(value)))))
+        }
+        ReadValue::Absent => "None".to_owned(),
+    }
+}
+
+fn line(event: &Event) -> String {
+    let name = quoted(event.name().as_bytes());
+    match &event.unresolved {
+        Some(id) => format!("event {name} unresolved {id}"),
+        None => {
+            let field = |(name, value): (&str, &ReadValue)| format!(" {}={}", quoted(name.as_bytes()), shown(value));
+            let fields: String = event.schema.field_names().zip(&event.values).map(field).collect();
+            format!("event {name} timestamp_ns={}{fields}", event.time)
+        }
+    }
+}
+
+// A value that was read, to be written into a field of a type with this tag; none inside of a list or a map. What it
+// borrows is leaked: the test ends.
+fn written(value: &ReadValue, tag: Option<u8>) -> Value<'_> {
+    match value {
+        ReadValue::Integer(number) => Value::Integer(*number),
+        ReadValue::Number(number) => Value::Number(*number),
+        ReadValue::Float(number) => Value::Float(*number),
+        ReadValue::Bool(truth) => Value::Bool(*truth),
+        ReadValue::Text(text) if tag == Some(7) => Value::Pooled(text),
+        ReadValue::Text(text) => Value::Text(text),
+        ReadValue::Bytes(bytes) => Value::Bytes(bytes),
+        ReadValue::Stack(addresses) if tag == Some(6) => Value::PooledStack(addresses),
+        ReadValue::Stack(addresses) => Value::Stack(addresses),
+        ReadValue::Texts(pairs) => {
+            Value::Texts(pairs.iter().map(|(key, text)| (key.as_str(), text.as_str())).collect::<Vec<_>>().leak())
+        }
+        ReadValue::List(items) => {
+            Value::List(items.iter().map(|item| written(item, None)).collect::<Vec<_>>().leak())
+        }
+        ReadValue::Map(pairs) => Value::Map(
+            pairs.iter().map(|(key, value)| (written(key, None), written(value, None))).collect::<Vec<_>>().leak(),
+        ),
+        ReadValue::Absent => Value::Absent,
+    }
+}
+
+// The lines of the events, as they were read or written again by a recorder.
+fn recorded_again(recorded: &[Event]) -> Result<Vec<String>, Error> {
+    let mut recorder = Recorder::with_batches(Vec::new(), 4_096);
+    for event in recorded {
+        let values: Vec<_> = event
+            .values
+            .iter()
+            .zip(event.schema.field_tags())
+            .map(|(value, tag)| written(value, Some(tag & 0x7f)))
+            .collect();
+        recorder.event(&event.schema, event.time, &values)?;
+    }
+    let trace = recorder.finish()?;
+    if trace.is_empty() {
+        return Ok(Vec::new());
+    }
+    Ok(events(&trace)?.map(|event| line(&event)).collect())
+}
+
+// The events of a trace, read with so many to a batch.
+fn read_by(trace: &[u8], most: u64) -> Result<u64, Error> {
+    let (mut place, mut events, mut state) = (0, 0, Vec::new());
+    loop {
+        let read = read_batch(&state, &trace[place..], most)?;
+        place += read.length;
+        events += read.events;
+        if read.stop.is_some() || place == trace.len() {
+            return Ok(events);
+        }
+        state = read.state;
+    }
+}
+
 #[test]
 fn recorded_traces() -> Result<(), Error> {
     let folder = Path::new(env!("CARGO_MANIFEST_DIR")).join("../../crates/trace_replay/data");
-    let mut seen = 0;
+    let (mut seen, mut again, mut refused) = (0, 0, 0);
     for file in ["public.txt", "malformed.txt", "model.txt", "types.txt"] {
         let text = std::fs::read_to_string(folder.join(file))?;
         for recording in text.split("== ").skip(1) {
@@ -138,12 +255,41 @@ fn recorded_traces() -> Result<(), Error> {
                     seen += 1;
                 }
             }
-            if let Some(wanted) = lines("resolve") {
-                let count = wanted.iter().filter(|line| line.starts_with("event ")).count();
-                assert_eq!(events(&trace)?.count(), count, "{recording}");
+            let Some(wanted) = lines("resolve") else { continue };
+            if wanted[0] == "no header" {
+                assert!(matches!(events(&trace), Err(Error::Trace { cause: Cause::NoHeader, .. })), "{recording}");
+                continue;
+            }
+            let mut all = events(&trace)?;
+            assert_eq!(format!("trace version {}", all.version()), wanted[0], "{recording}");
+            let read: Vec<_> = all.by_ref().collect();
+            let shown: Vec<_> = read.iter().map(line).collect();
+            let last = wanted.iter().position(|line| line.starts_with("end ")).unwrap();
+            assert_eq!(shown, wanted[1..last], "{recording}");
+            match (all.stop(), &wanted[last].split(' ').collect::<Vec<_>>()[1..]) {
+                (None, ["whole"]) => {}
+                (Some(Error::Trace { length, .. }), ["stopped", "at", place]) => {
+                    assert_eq!(length.to_string(), *place, "{recording}")
+                }
+                (Some(Error::Trace { cause: Cause::SchemaConflict, .. }), ["conflict", ..]) => {}
+                other => panic!("{other:?}: {recording}"),
+            }
+            for most in [1, 2, 7] {
+                assert_eq!(read_by(&trace, most)?, read.len() as u64, "{recording}");
+            }
+            // written again, but for events whose ids stand for nothing
+            let resolved: Vec<_> = read.into_iter().filter(|event| event.unresolved.is_none()).collect();
+            match recorded_again(&resolved) {
+                Ok(lines) => {
+                    assert_eq!(lines, resolved.iter().map(line).collect::<Vec<_>>(), "{recording}");
+                    again += 1;
+                }
+                // (two schemas of one name)
+                Err(Error::Batch { cause: Cause::Conflict, .. }) => refused += 1,
+                Err(error) => panic!("{error}: {recording}"),
             }
         }
     }
-    assert!(seen > 1000, "{seen}");
+    assert!(seen > 1000 && again > 500 && refused < again / 10, "{seen} {again} {refused}");
     Ok(())
 }

@@ -3,16 +3,17 @@
 use crate::follow::{End, Following};
 use crate::input::unread;
 use crate::output::{Noted, standing};
-use crate::pieces::ending_of;
+use crate::pieces::{ending_by, placed};
 use crate::tasks::{Call, tell, write};
-use gotymbe_plan::ending::{dump_ending, lacks_cause};
+use dial9_trace_format::decoder::FeedDecoder;
+use gotymbe_plan::ending::{Ending, dump_ending};
 use gotymbe_plan::output::Standing;
 use std::alloc::AllocError;
 use std::fs::File;
 use std::io;
 use std::rt::{Clock, Files};
 use trace_lines::dump::FAILED;
-use trace_lines::pieces::dump_pieces;
+use trace_lines::pieces::dump_fed;
 use trace_values::leb128::Plain;
 
 /// Writes the lines of a file as it grows, anew where it shrank or another one came under its name; what is no file
@@ -36,12 +37,13 @@ pub(crate) fn follow(
             inner: Plain(io::writer(rt)),
             error: None,
         };
-        let status = dump_pieces(rt.alloc(), &mut input, &mut out);
-        let ending = dump_ending(status, input.error, out.error);
+        let mut decoder = FeedDecoder::new(rt.alloc());
+        let status = dump_fed(rt.alloc(), &mut decoder, &mut input, &mut out);
         if input.end == End::Idle || status == FAILED {
-            if lacks_cause(ending, name) {
-                return tell(rt, name, ending_of(rt, call, name));
-            }
+            let ending = match dump_ending(status, input.error, out.error) {
+                Ending::Dumped(_) => placed(rt, call, name, ending_by(&decoder)),
+                ending => ending,
+            };
             return tell(rt, name, ending);
         }
     }

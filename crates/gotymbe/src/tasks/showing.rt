@@ -1,19 +1,19 @@
 //! Showing what traces hold: checking, dumping, counting, and lines of JSON.
 
-use crate::events::{Form, send_events};
-use crate::input::{front_ending, open, read_all, unread};
+use crate::events::{EventLines, Form};
+use crate::input::{open, unread};
 use crate::output::Noted;
-use crate::pieces::{Tally, ending_of, read_named};
+use crate::pieces::{Picked, Tally, ending_by, ending_of, placed, read_named};
 use crate::tasks::{Call, settle, tell};
-use gotymbe_plan::ending::{Ending, dump_ending, lacks_cause};
+use dial9_trace_format::decoder::FeedDecoder;
+use gotymbe_plan::ending::{Ending, dump_ending};
 use gotymbe_plan::statistics::push_stats;
 use gotymbe_words::asked::Task;
 use std::alloc::AllocError;
 use std::fs::File;
 use std::rt::{Clock, Files};
-use trace_fronts::whole::Readers;
-use trace_lines::dump::{WHOLE, dump};
-use trace_lines::pieces::dump_pieces;
+use trace_lines::dump::WHOLE;
+use trace_lines::pieces::dump_fed;
 use trace_stats::trace::TraceStats;
 use trace_values::leb128::{TraceWrite, send_all};
 
@@ -42,12 +42,11 @@ pub(crate) fn stats_of_all<W: TraceWrite + Drop>(
 ) -> Result<u8, AllocError> {
     let mut tally = Tally {
         stats: TraceStats::new(rt.alloc()),
-        filter: call.filter(),
-        left: 0,
+        picked: Picked::of(call),
     };
     let mut status = WHOLE;
     for name in call.asked.files.as_slice() {
-        tally.left = call.asked.limit.unwrap_or(u64::MAX);
+        tally.picked = Picked::of(call);
         let ending = read_named(rt, call, name, &mut tally);
         status = status.max(tell(rt, name, ending)?);
     }
@@ -59,44 +58,39 @@ pub(crate) fn stats_of_all<W: TraceWrite + Drop>(
     }
 }
 
-/// Writes the lines of a file: of its frames as it is read, of its events once all was read.
+/// Writes the lines of a file as it is read: of its frames, or of its events.
 pub(crate) fn show_one<W: TraceWrite + Drop>(
     rt: &(impl AllocGlobal + Files<File = File> + Input + Eprint + Clock),
     call: &Call<'_>,
     name: &str,
     out: &mut Noted<W>,
 ) -> Ending {
-    if call.asked.task == Task::Json {
-        return events_of(rt, call, name, Form::Json, out);
-    }
-    if call.asked.selects() {
-        return events_of(rt, call, name, Form::Resolved, out);
-    }
-    if call.asked.resolve {
-        return dump_events(rt, call, name, out);
-    }
-    dump_frames(rt, call, name, out)
+    let Some(form) = form_of(call) else {
+        return dump_frames(rt, call, name, out);
+    };
+    let mut lines = EventLines {
+        alloc: rt.alloc(),
+        form,
+        picked: Picked::of(call),
+        line: String::new(rt.alloc()),
+        held: Vec::new(rt.alloc()),
+        out,
+    };
+    read_named(rt, call, name, &mut lines)
 }
 
-// Writes the lines of the events that are asked for.
-fn events_of<W: TraceWrite + Drop>(
-    rt: &(impl AllocGlobal + Files<File = File> + Input + Eprint + Clock),
-    call: &Call<'_>,
-    name: &str,
-    form: Form,
-    out: &mut Noted<W>,
-) -> Ending {
-    match read_all(rt, call, name) {
-        Ok(bytes) => send_events(
-            rt.alloc(),
-            &bytes,
-            form,
-            call.filter(),
-            call.asked.limit,
-            out,
-        ),
-        Err(ending) => ending,
+// The form of the lines, where they are those of events.
+fn form_of(call: &Call<'_>) -> Option<Form> {
+    if call.asked.task == Task::Json {
+        return Some(Form::Json);
     }
+    if call.asked.selects() {
+        return Some(Form::Resolved);
+    }
+    if call.asked.resolve {
+        return Some(Form::Dump);
+    }
+    None
 }
 
 // Writes the dump of a file's frames, as it is read.
@@ -110,29 +104,11 @@ fn dump_frames<W: TraceWrite + Drop>(
         Ok(input) => input,
         Err(error) => return unread(error.kind()),
     };
-    let status = dump_pieces(rt.alloc(), &mut input, out);
+    let mut decoder = FeedDecoder::new(rt.alloc());
+    let status = dump_fed(rt.alloc(), &mut decoder, &mut input, out);
     input.finish();
-    let ending = dump_ending(status, input.error, out.error);
-    if lacks_cause(ending, name) {
-        return ending_of(rt, call, name);
-    }
-    ending
-}
-
-// Writes the dump of a file's events.
-fn dump_events<W: TraceWrite + Drop>(
-    rt: &(impl AllocGlobal + Files<File = File> + Input + Eprint + Clock),
-    call: &Call<'_>,
-    name: &str,
-    out: &mut Noted<W>,
-) -> Ending {
-    let bytes = match read_all(rt, call, name) {
-        Ok(bytes) => bytes,
-        Err(ending) => return ending,
-    };
-    let status = dump(rt.alloc(), &bytes, out, true);
-    match dump_ending(status, None, out.error) {
-        Ending::Dumped(_) => front_ending(rt.alloc(), &bytes, Readers::Both),
+    match dump_ending(status, input.error, out.error) {
+        Ending::Dumped(_) => placed(rt, call, name, ending_by(&decoder)),
         ending => ending,
     }
 }

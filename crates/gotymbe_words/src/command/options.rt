@@ -16,7 +16,7 @@ pub(crate) fn selecting<'a>(
         .help("Events of this name alone (may be given several times)");
     let limit = number(alloc, "limit", "N", "At most so many events").short('n');
     let command = range(alloc, command.arg(files)?)?;
-    writing(alloc, command.arg(event)?.arg(limit)?)
+    command.arg(event)?.arg(limit)
 }
 
 /// From when to when.
@@ -44,6 +44,19 @@ pub(crate) fn writing<'a>(alloc: Global, command: Command<'a>) -> Result<Command
         .value_name("FILE")
         .help("Write into this file, which must not be there yet");
     let force = flag(alloc, "force", "Write in place of a file that is there");
+    let quiet = quiet(alloc);
+    command.arg(output)?.arg(force)?.arg(quiet)
+}
+
+/// The folder whose files are written, and what is told meanwhile.
+pub(crate) fn folder<'a>(alloc: Global, command: Command<'a>) -> Result<Command<'a>, AllocError> {
+    let output = Arg::new(alloc, "output")
+        .short('o')
+        .long("output")
+        .value_name("FOLDER")
+        .required(true)
+        .help("Write into this folder, which is made where it is not there");
+    let force = flag(alloc, "force", "Write in place of files that are there");
     let quiet = quiet(alloc);
     command.arg(output)?.arg(force)?.arg(quiet)
 }

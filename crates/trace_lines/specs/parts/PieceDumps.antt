@@ -1,5 +1,6 @@
 -- For private contracts: the dump of an input that comes in pieces.
 use Rattle.std.specs.Prelude.{◌≡◌, ℕ, ◌+◌, ◌<◌, false, List, [], ◌++◌, length, Option, None, Some, Result, Ok, Err}
+use Rattle.std.specs.Io.KnownBytes.{Consumes}
 use Rattle.trace_values.specs.Number.{AreBytes}
 use Rattle.trace_values.specs.Sending.{Account, TookOnly}
 use Rattle.trace_values.specs.Values.{owned_reader}
@@ -17,18 +18,20 @@ use Rattle.trace_lines.specs.declared.dump.DumpForm.TheVariants.{Frames}
 use Rattle.trace_lines.specs.declared.dump.Reader.TheVariants.{Owned}
 use Rattle.trace_lines.specs.declared.pieces.Next.{Next}
 use Rattle.trace_lines.specs.declared.pieces.Next.TheVariants.{Line, Wait, End}
-use Rattle.trace_lines.specs.PieceDumps.{DumpsFrontOfBytes}
+use Rattle.trace_lines.specs.PieceDumps.{DumpsFrontOfBytes, DumpsFrontOfRead}
 
 -- A text is the dump of what was read, and that of all that the reader had left, where it tells that.
-pub record IsDumpRead (remaining : Option (List ℕ)) (status : ℕ) (text : List ℕ) : Type 0 where
+pub record IsDumpRead (before after : Option (List ℕ)) (status : ℕ) (text : List ℕ) : Type 0 where
   pub read : List ℕ
+  pub consumed : Consumes before after read
   pub of_read : IsDump false read status text
-  pub of_all : (bytes : List ℕ) → remaining ≡ Some bytes → IsDump false bytes status text
+  pub of_all : (bytes : List ℕ) → before ≡ Some bytes → IsDump false bytes status text
 
 -- it went to a writer, and its status is the answer; or a front of it, and then one fault came, or none
-abbrev pub SendsRead : {E : Type 0} → Account → Account → Option (List ℕ) → Result ℕ E → Type 0
-SendsRead a b remaining (Ok status) = (text : List ℕ) × IsDumpRead remaining status text × TookOnly a b text []
-SendsRead a b remaining (Err e) = DumpsFrontOfBytes remaining a b
+abbrev pub SendsRead : {E : Type 0} → Account → Account → Option (List ℕ) → Option (List ℕ) → Result ℕ E → Type 0
+SendsRead a b before after (Ok status) =
+    (text : List ℕ) × IsDumpRead before after status text × TookOnly a b text []
+SendsRead a b before after (Err e) = DumpsFrontOfBytes before a b × DumpsFrontOfRead before after a b
 
 -- the last line where an error of this kind is told at this place, and the status
 abbrev pub AppendsEnd : ℕ → DecodeErrorKind → ℕ → List ℕ → List ℕ → Type 0

@@ -1,8 +1,8 @@
 -- For private contracts: where the schema of an event stands.
 use Rattle.std.specs.Prelude.{◌≡◌, ◌<◌, ◌⊎◌, ℕ, true, false, List, [], ◌∷◌, ◌++◌, length, get_or, Result, Ok, Err}
 use Rattle.trace_wire.specs.Schemas.{Entry}
-use Rattle.trace_stats.specs.Events.{bare, IsSchemaOf}
-use Rattle.trace_stats.specs.Traces.{is_same_schema}
+use Rattle.trace_stats.specs.Events.{IsSchemaOf}
+use Rattle.trace_events.specs.Schemas.{bare, is_same_schema}
 use Rattle.trace_stats.specs.declared.full.Full.{Full}
 use Rattle.trace_stats.specs.declared.schema.SchemaStats.{SchemaStats}
 use Rattle.trace_stats.specs.declared.trace.StatsError.{StatsError}

@@ -2,15 +2,15 @@
 
 ghost use Rattle.std.specs.Prelude.{◌≡◌, ◌<◌, ◌≤◌, ◌++◌, ◌∷◌, [], List, OnOk, OnErr, length};
 ghost use Rattle.trace_stats.specs.Summaries.{most_counted};
-ghost use Rattle.trace_stats.specs.Events.{Counted, counted, IsSchemaOf};
-ghost use Rattle.trace_stats.specs.OwnedEvents.{owned_event};
+ghost use Rattle.trace_stats.specs.Events.{Counted, counted_event, IsSchemaOf};
+ghost use Rattle.trace_events.specs.OwnedEvents.{owned_event};
 ghost use Rattle.trace_stats.specs.parts.Events.{AddsAt, AddsValues, IsFullAt, AreFull};
 
-use crate::event::OwnedEvent;
 use crate::field::FieldStats;
 use crate::full::Full;
 use crate::measure::measure_of_owned;
 use crate::schema::SchemaStats;
+use trace_events::event::OwnedEvent;
 
 impl SchemaStats {
     /// Counts an event whose values own their memory, as `add` does.
@@ -18,7 +18,7 @@ impl SchemaStats {
         ensures schema { self.new.schema ≡ self.old.schema }
         ensures added { OnOk result
             ((es : List Counted) → IsSchemaOf es self.old
-            → IsSchemaOf (es ++ counted (owned_event event.now) bytes ∷ []) self.new) }
+            → IsSchemaOf (es ++ counted_event (owned_event event.now) bytes ∷ []) self.new) }
         ensures full { OnErr result
             ((es : List Counted) → IsSchemaOf es self.old → most_counted ≤ length es) }
     {

@@ -64,10 +64,7 @@ fn is_not_reset<'a>(alloc: Global, before: Lent<'a>, next: Lent<'a>, kind: Error
     let Ok(mut encoder) = Encoder::new_to(alloc, before) else {
         return false;
     };
-    match encoder.reset_to(next) {
-        Ok(_) => false,
-        Err(fault) => fault == EncodeError::Writer(kind),
-    }
+    encoder.reset_to(next).err() == Some(EncodeError::Writer(kind))
 }
 
 /// The header of a new trace went out to where its writer failed, and was not tried again; the writer before has its

@@ -6,7 +6,7 @@ use crate::tests::traces::{CONFLICT, ONE_EVENT};
 use std::alloc::Global;
 use std::io;
 use std::io::{ErrorKind, Read};
-use trace_lines::dump::{CONFLICT as AT_CONFLICT, FAILED, NO_HEADER};
+use trace_lines::dump::{CONFLICT as AT_CONFLICT, FAILED, NO_HEADER, STOPPED, WHOLE};
 use trace_lines::pieces::dump_pieces;
 use trace_samples::Told;
 use trace_values::leb128::Faults;
@@ -94,4 +94,50 @@ fn nothing_is_read_after_the_last_line(rt: HostRuntime) {
             "no header\n"
         )
     );
+}
+
+/// The one event, and a byte that begins no frame, and zeros.
+const STUCK: [u8; 40] = [
+    0x54, 0x52, 0x43, 0x00, 0x01, 0x01, 0x00, 0x01, 0x02, 0x00, 0x45, 0x76, 0x01, 0x01, 0x00, 0x01,
+    0x00, 0x76, 0x09, 0x02, 0x00, 0x01, 0xE8, 0x03, 0x00, 0x2A, 0xFF, 0x00, 0x00, 0x00, 0x00, 0x00,
+    0x00, 0x00, 0x00, 0x00, 0x00, 0x00, 0x00, 0x00,
+];
+
+/// The conflict, and the header and the schema of the one event once more.
+const PAST_CONFLICT: [u8; 59] = [
+    0x54, 0x52, 0x43, 0x00, 0x01, 0x01, 0x00, 0x01, 0x02, 0x00, 0x45, 0x76, 0x01, 0x01, 0x00, 0x01,
+    0x00, 0x76, 0x09, 0x02, 0x00, 0x01, 0xE8, 0x03, 0x00, 0x2A, 0x01, 0x00, 0x01, 0x02, 0x00, 0x45,
+    0x76, 0x01, 0x01, 0x00, 0x01, 0x00, 0x77, 0x03, 0x54, 0x52, 0x43, 0x00, 0x01, 0x01, 0x00, 0x01,
+    0x02, 0x00, 0x45, 0x76, 0x01, 0x01, 0x00, 0x01, 0x00, 0x76, 0x09,
+];
+
+/// An input that is read in such steps, how the dump ends, and after how many reads. Where all of it is read, one more
+/// tells that it has ended.
+const READS: [(&[u8], usize, u8, usize); 11] = [
+    (&STUCK, 1, STOPPED, 27),
+    (&STUCK, 13, STOPPED, 3),
+    (&STUCK, 4_096, STOPPED, 1),
+    (&PAST_CONFLICT, 1, AT_CONFLICT, 40),
+    (&PAST_CONFLICT, 7, AT_CONFLICT, 6),
+    (&PAST_CONFLICT, 4_096, AT_CONFLICT, 1),
+    (&[0; 40], 1, NO_HEADER, 5),
+    (&[0; 40], 4, NO_HEADER, 2),
+    (&[0; 40], 4_096, NO_HEADER, 1),
+    (&ONE_EVENT, 1, WHOLE, 27),
+    (&ONE_EVENT, 4_096, WHOLE, 2),
+];
+
+/// The dump of an input that is read in such steps has this status, after so many reads.
+fn reads(alloc: Global, bytes: &[u8], step: usize, status: u8, reads: usize) -> bool {
+    let mut input = read_in(bytes, step, 1_000);
+    let mut told = Told::new(stepping(1_024));
+    let found = dump_pieces(alloc, &mut input, &mut told);
+    found == status && input.reads.saturating_add(reads) == 1_000
+}
+
+#[test]
+fn reads_are_counted(rt: HostRuntime) {
+    for (bytes, step, status, count) in READS {
+        assert!(rt; reads(rt.alloc(), bytes, step, status, count));
+    }
 }

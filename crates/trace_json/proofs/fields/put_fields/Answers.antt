@@ -1,5 +1,4 @@
 use Rattle.std.proofs.Common.{[], ap, refl, ◌∙◌, drop}
-use Rattle.trace_values.specs.Refs.{ref_view}
 use Rattle.dial9_trace_format.specs.parts.Resolving.{as_pools}
 use Rattle.dial9_trace_format.specs.ShownEvents.{names_of}
 use Rattle.trace_json.specs.EventJson.{AreFieldsJson}
@@ -9,20 +8,20 @@ use Rattle.trace_json.proofs.OneMore.{all_stand, drop_next, field_stands}
 use Rattle.trace_json.proofs.fields.put_fields.Goals as goal
 
 pub fields-init : goal.fields-init
-fields-init c = record {
+fields-init g c = record {
   names = ap names_of c.fields-names.ensures;
   tokens = record { all = []; are_so = refl; tokens = nothing_put c.args.out.now.tokens };
   before = refl;
 }
 
 pub fields-preserved : goal.fields-preserved
-fields-preserved c =
+fields-preserved g c =
     let e = c.args.event.now in
     record {
       names = c.first_name.ensures.others ∙ ap (drop 1) c.fields.invariant.names
           ∙ drop_next c.fields.value-index (names_of e.schema.now.fields);
       tokens = field_stands (as_pools e.string_pool.now e.stack_pool.now) (names_of e.schema.now.fields)
-          ref_view e.fields.now c.fields.value-index
+          g.V.TraceValue.value e.values.now c.fields.value-index
           (record {
             inside = c.fields-test.true;
             is = c.value-item.is;
@@ -33,11 +32,11 @@ fields-preserved c =
     }
 
 pub returns : goal.returns
-returns c =
+returns g c =
     let e = c.args.event.now in
     record {
       tokens = all_stand member_tokens (AreFieldsJson (as_pools e.string_pool.now e.stack_pool.now)
-          (names_of e.schema.now.fields)) ref_view e.fields.now c.fields.value-index _ _ c.fields-test.false
+          (names_of e.schema.now.fields)) g.V.TraceValue.value e.values.now c.fields.value-index _ _ c.fields-test.false
           c.fields.invariant.tokens;
       before = c.fields.invariant.before;
     }

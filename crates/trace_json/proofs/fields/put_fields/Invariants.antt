@@ -1,5 +1,4 @@
-use Rattle.std.proofs.Common.{◌≡◌, take, drop}
-use Rattle.trace_values.specs.Refs.{ref_views}
+use Rattle.std.proofs.Common.{◌≡◌, take, drop, map as list_map}
 use Rattle.dial9_trace_format.specs.parts.Resolving.{as_pools}
 use Rattle.dial9_trace_format.specs.ShownEvents.{names_of}
 use Rattle.trace_json.specs.EventJson.{AreFieldsJson}
@@ -7,10 +6,10 @@ use Rattle.trace_json.specs.parts.Put.{StandAll, member_tokens}
 use Rattle.trace_json.proofs.fields.put_fields.Given as goal
 
 abbrev pub invariant-fields : goal.invariant-fields
-invariant-fields l = record {
+invariant-fields g l = record {
   names : names_of l.names ≡ drop l.value-index (names_of l.event.schema.now.fields);
   tokens : StandAll member_tokens
       (AreFieldsJson (as_pools l.event.string_pool.now l.event.stack_pool.now) (names_of l.event.schema.now.fields)
-      (ref_views (take l.value-index l.event.fields.now))) l.initial.out.tokens l.out.tokens;
+      (list_map g.V.TraceValue.value (take l.value-index l.event.values.now))) l.initial.out.tokens l.out.tokens;
   before : l.out.before ≡ l.initial.out.before;
 }

@@ -1,72 +1,113 @@
-use Rattle.std.proofs.Common.{refl, ◌∙◌, []}
+use Rattle.std.proofs.Common.{refl, ◌∙◌, [], map as list_map, arith}
+use Rattle.trace_values.proofs.ValueSizes.{falls_3, steps_3}
+use Rattle.trace_events.proofs.Depths.{item_in, key_in, value_in, most_below, most_pair_below}
 use Rattle.json.specs.Tree.{json_tokens}
 use Rattle.trace_values.specs.Reading.{values_to_items, values_to_pairs}
-use Rattle.trace_values.specs.Refs.{ref_view, ref_views, ref_pair_views}
 use Rattle.dial9_trace_format.specs.parts.Resolving.{as_pools}
 use Rattle.trace_json.specs.EventJson.{AreItemsJson, ArePairsJson, IsValueJson}
 use Rattle.trace_json.proofs.Tokens.{list_stands, nothing_put, pair_closed}
 use Rattle.trace_json.proofs.OneMore.{all_stand, item_stands, pair_stands_in}
-use Rattle.trace_json.proofs.KindsPut.{map_seen}
 use Rattle.trace_json.proofs.value.+value.Goals as goal
 
 pub put_list-returns-clause-tokens : goal.put_list-returns-clause-tokens
-put_list-returns-clause-tokens t c =
+put_list-returns-clause-tokens g t c =
     list_stands c.end_array.result
-    (AreItemsJson (as_pools c.args.strings.now c.args.stacks.now) (values_to_items (ref_views c.args.items.now)))
+    (AreItemsJson (as_pools c.args.strings.now c.args.stacks.now)
+    (values_to_items (list_map g.V.TraceValue.value c.args.items.now)))
     c.args.out.now.tokens c.begin_array.new.self.tokens c.put_items.new.out.tokens c.end_array.new.self.tokens
     c.in_ok-begin_array.ensures.ok c.in_ok-put_items.ensures.tokens c.end_array.ensures.ok
 
 pub put_map-returns-clause-tokens : goal.put_map-returns-clause-tokens
-put_map-returns-clause-tokens t c =
+put_map-returns-clause-tokens g t c =
+    let value = g.V.TraceValue.value in
     list_stands c.end_array.result
-    (ArePairsJson (as_pools c.args.strings.now c.args.stacks.now) (values_to_pairs (ref_pair_views c.args.pairs.now)))
+    (ArePairsJson (as_pools c.args.strings.now c.args.stacks.now)
+    (values_to_pairs (list_map (λ p. (value p.0, value p.1)) c.args.pairs.now)))
     c.args.out.now.tokens c.begin_array.new.self.tokens c.put_pairs.new.out.tokens c.end_array.new.self.tokens
     c.in_ok-begin_array.ensures.ok c.in_ok-put_pairs.ensures.tokens c.end_array.ensures.ok
 
 pub put_items-items-init : goal.put_items-items-init
-put_items-items-init t c = record {
+put_items-items-init g t c = record {
   tokens = record { all = []; are_so = refl; tokens = nothing_put c.args.out.now.tokens };
   before = refl;
 }
 
 pub put_items-items-preserved : goal.put_items-items-preserved
-put_items-items-preserved t c = record {
-  tokens = item_stands (as_pools c.args.strings.now c.args.stacks.now) ref_view c.args.items.now c.items.item-index
-      _ c.items-test.true c.item-item.is c.items.invariant.tokens c.in_ok-put_value.ensures.tokens;
+put_items-items-preserved g t c = record {
+  tokens = item_stands (as_pools c.args.strings.now c.args.stacks.now) g.V.TraceValue.value c.args.items.now
+      c.items.item-index _ c.items-test.true c.item-item.is c.items.invariant.tokens c.in_ok-put_value.ensures.tokens;
   before = c.in_ok-put_value.ensures.before ∙ c.items.invariant.before;
 }
 
 pub put_items-returns-clause-tokens : goal.put_items-returns-clause-tokens
-put_items-returns-clause-tokens t c =
+put_items-returns-clause-tokens g t c =
     all_stand json_tokens (λ vs. AreItemsJson (as_pools c.args.strings.now c.args.stacks.now) (values_to_items vs))
-    ref_view c.args.items.now c.items.item-index _ _ c.items-test.false c.items.invariant.tokens
+    g.V.TraceValue.value c.args.items.now c.items.item-index _ _ c.items-test.false c.items.invariant.tokens
 
 pub put_pairs-pairs-init : goal.put_pairs-pairs-init
-put_pairs-pairs-init t c = record {
+put_pairs-pairs-init g t c = record {
   tokens = record { all = []; are_so = refl; tokens = nothing_put c.args.out.now.tokens };
   before = refl;
 }
 
 pub put_pairs-pairs-preserved : goal.put_pairs-pairs-preserved
-put_pairs-pairs-preserved t c =
+put_pairs-pairs-preserved g t c =
     let p = as_pools c.args.strings.now c.args.stacks.now in
     let x = c.pair-item.result in
+    let value = g.V.TraceValue.value in
     record {
-      tokens = pair_stands_in p (λ y. (ref_view y.0, ref_view y.1)) c.args.pairs.now c.pairs.pair-index
+      tokens = pair_stands_in p (λ y. (value y.0, value y.1)) c.args.pairs.now c.pairs.pair-index
           _ c.pairs-test.true c.pair-item.is c.pairs.invariant.tokens
-          (pair_closed (IsValueJson p (ref_view x.0)) (IsValueJson p (ref_view x.1)) _ c.in-Ok-tri.ensures.ok
+          (pair_closed (IsValueJson p (value x.0)) (IsValueJson p (value x.1)) _ c.in-Ok-tri.ensures.ok
           c.in-Ok-tri-2.ensures.tokens c.in-Ok-tri-3.ensures.tokens c.in-Ok-tri-4.ensures.ok);
       before = c.in-Ok-tri-4.ensures.room.0 ∙ c.in-Ok-tri-3.ensures.before ∙ c.in-Ok-tri-2.ensures.before
           ∙ c.in-Ok-tri.ensures.room.0 ∙ c.pairs.invariant.before;
     }
 
 pub put_pairs-returns-clause-tokens : goal.put_pairs-returns-clause-tokens
-put_pairs-returns-clause-tokens t c =
+put_pairs-returns-clause-tokens g t c =
+    let value = g.V.TraceValue.value in
     all_stand json_tokens (λ ps. ArePairsJson (as_pools c.args.strings.now c.args.stacks.now) (values_to_pairs ps))
-    (λ p. (ref_view p.0, ref_view p.1)) c.args.pairs.now c.pairs.pair-index _ _ c.pairs-test.false
+    (λ p. (value p.0, value p.1)) c.args.pairs.now c.pairs.pair-index _ _ c.pairs-test.false
     c.pairs.invariant.tokens
 
-pub put_value-returns-in-Map-clause-tokens : goal.put_value-returns-in-Map-clause-tokens
-put_value-returns-in-Map-clause-tokens t c =
-    map_seen (as_pools c.args.strings.now c.args.stacks.now) c.put_map.result c.args.value.now c.in-Map.pairs
-    c.pairs_of.result.now _ _ c.in-Map.is c.pairs_of.ensures c.put_map.ensures.tokens
+-- ---- what is gone into next is less deep
+
+pub put_value-put_list-requires : goal.put_value-put_list-requires
+put_value-put_list-requires g t c κs within = (
+  falls_3 _ _ 0 2 t c.decreases (most_below g.V.TraceValue.depth c.in-Items.items.now _ c.in-Items.ensures.1)
+      (omega arith),
+  within,
+)
+
+pub put_value-put_map-requires : goal.put_value-put_map-requires
+put_value-put_map-requires g t c κs within = (
+  falls_3 _ _ 0 2 t c.decreases
+      (most_pair_below g.V.TraceValue.depth c.in-Pairs.pairs.now _ (c.in-Pairs.ensures.1, c.in-Pairs.ensures.2))
+      (omega arith),
+  within,
+)
+
+pub put_items-put_value-requires : goal.put_items-put_value-requires
+put_items-put_value-requires g t c κs within = (
+  steps_3 _ _ 1 0 t c.decreases
+      (item_in g.V.TraceValue.depth c.args.items.now c.items.item-index _ c.items-test.true c.item-item.is)
+      (omega arith),
+  within,
+)
+
+pub put_pairs-put_value-requires : goal.put_pairs-put_value-requires
+put_pairs-put_value-requires g t c κs within = (
+  steps_3 _ _ 1 0 t c.decreases
+      (key_in g.V.TraceValue.depth c.args.pairs.now c.pairs.pair-index _ c.pairs-test.true c.pair-item.is)
+      (omega arith),
+  within,
+)
+
+pub put_pairs-put_value-requires-in-pairs : goal.put_pairs-put_value-requires-in-pairs
+put_pairs-put_value-requires-in-pairs g t c κs within = (
+  steps_3 _ _ 1 0 t c.decreases
+      (value_in g.V.TraceValue.depth c.args.pairs.now c.pairs.pair-index _ c.pairs-test.true c.pair-item.is)
+      (omega arith),
+  within,
+)

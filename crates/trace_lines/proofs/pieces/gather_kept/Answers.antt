@@ -5,44 +5,45 @@ use Rattle.trace_lines.proofs.pieces.gather_kept.Goals as goal
 
 pub lines-init : goal.lines-init
 lines-init c = record {
-  gathered = none_yet c.args.decoder.now (string_bytes c.args.held.now) c.requires.fed c.requires.empty;
+  gathered = none_yet c.args.decoder.now.state (string_bytes c.args.held.now) c.requires.fed c.requires.empty;
 }
 
 pub lines-preserved : goal.lines-preserved
 lines-preserved c = record {
-  gathered = (one_more c.push_next_lines.new.decoder
+  gathered = (one_more c.push_next_lines.new.decoder.state
       (string_bytes c.push_next_lines.new.line) {after = string_bytes c.push_str.new.self} c.in-Line.is
       c.lines.invariant.gathered c.in_ok-next.ensures (rw c.deref.ensures at c.in_ok-push_str.ensures.bytes)).0;
 }
 
 pub lines-smaller : goal.lines-smaller
 lines-smaller c =
-    (one_more c.push_next_lines.new.decoder
+    (one_more c.push_next_lines.new.decoder.state
     (string_bytes c.push_next_lines.new.line) {after = string_bytes c.push_str.new.self} c.in-Line.is
     c.lines.invariant.gathered c.in_ok-next.ensures (rw c.deref.ensures at c.in_ok-push_str.ensures.bytes)).1
 
 pub returns-in_err-next : goal.returns-in_err-next
 returns-in_err-next c =
-    refused_after c.args.decoder.now c.push_next_lines.new.decoder [] (string_bytes c.lines.held)
+    refused_after c.args.decoder.now.state c.push_next_lines.new.decoder.state [] (string_bytes c.lines.held)
     c.from_residual.result c.from_residual.ensures.0
-    (front_so_far c.args.decoder.now c.lines.decoder (string_bytes c.lines.held) c.lines.invariant.gathered)
+    (front_so_far c.args.decoder.now.state c.lines.decoder.state (string_bytes c.lines.held) c.lines.invariant.gathered)
 
 pub returns-in_err-push_str : goal.returns-in_err-push_str
 returns-in_err-push_str c =
-    refused_after c.args.decoder.now c.push_next_lines.new.decoder [] (string_bytes c.push_str.new.self)
+    refused_after c.args.decoder.now.state c.push_next_lines.new.decoder.state [] (string_bytes c.push_str.new.self)
     c.from_residual-in_err-push_str.result c.from_residual-in_err-push_str.ensures.0
-    (subst (LinesBegin c.args.decoder.now []) (sym c.in_err-push_str.ensures.bytes)
-    (front_so_far c.args.decoder.now c.lines.decoder (string_bytes c.lines.held) c.lines.invariant.gathered))
+    (subst (LinesBegin c.args.decoder.now.state []) (sym c.in_err-push_str.ensures.bytes)
+    (front_so_far c.args.decoder.now.state c.lines.decoder.state (string_bytes c.lines.held)
+    c.lines.invariant.gathered))
 
 pub returns-in-Wait : goal.returns-in-Wait
 returns-in-Wait c =
-    no_more c.push_next_lines.new.decoder
+    no_more c.push_next_lines.new.decoder.state
     (string_bytes c.push_next_lines.new.line) {after = string_bytes c.push_str.new.self} c.in-Wait.is
     c.lines.invariant.gathered c.in_ok-next.ensures (rw c.deref.ensures at c.in_ok-push_str.ensures.bytes)
 
 pub returns-in-End : goal.returns-in-End
 returns-in-End c =
-    last_one c.push_next_lines.new.decoder
+    last_one c.push_next_lines.new.decoder.state
     (string_bytes c.push_next_lines.new.line) {after = string_bytes c.push_str.new.self} c.in-End.status
     c.in-End.is c.lines.invariant.gathered c.in_ok-next.ensures
     (rw c.deref.ensures at c.in_ok-push_str.ensures.bytes)

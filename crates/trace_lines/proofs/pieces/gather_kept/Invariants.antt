@@ -3,7 +3,7 @@ use Rattle.trace_lines.proofs.PiecesGathered.{Gathered}
 use Rattle.trace_lines.proofs.pieces.gather_kept.Given as goal
 
 abbrev pub invariant-lines : goal.invariant-lines
-invariant-lines l = record { gathered : Gathered l.initial.decoder l.decoder (string_bytes l.held) }
+invariant-lines l = record { gathered : Gathered l.initial.decoder.state l.decoder.state (string_bytes l.held) }
 
 abbrev pub decreases-lines : goal.decreases-lines
-decreases-lines l = length l.decoder.kept
+decreases-lines l = length l.decoder.state.kept

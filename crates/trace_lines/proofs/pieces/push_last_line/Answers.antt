@@ -4,7 +4,7 @@ use Rattle.trace_lines.proofs.pieces.push_last_line.Goals as goal
 
 pub returns-then-place-fed_len : goal.returns-then-place-fed_len
 returns-then-place-fed_len c =
-    last_whole c.args.decoder.now c.in-Some.field-0 (string_bytes c.push_whole_line.new.out)
+    last_whole c.args.decoder.now.state c.in-Some.field-0 (string_bytes c.push_whole_line.new.out)
     (string_bytes c.args.line.now) c.requires.waiting (sym c.version.ensures ∙ c.in-Some.is)
     (sym c.position-place.ensures ∙ c.if-place-fed_len.true ∙ c.fed_len.ensures) c.in_ok-push_whole_line.ensures
     c.requires.empty

@@ -7,8 +7,8 @@ use Rattle.trace_lines.proofs.pieces.push_next_lines.Goals as goal
 
 pub returns-in-Wait : goal.returns-in-Wait
 returns-in-Wait c =
-    let old = c.args.decoder.now in
-    let new = c.next_frame-frame.new.self in
+    let old = c.args.decoder.now.state in
+    let new = c.next_frame-frame.new.self.state in
     let first = string_bytes c.push_first_part.new.line in
     let lines = string_bytes c.push_pulled_line.new.line in
     let come = next_ok old new (next_as item_of c.next_frame-frame.result) first lines c.push_pulled_line.result
@@ -23,8 +23,8 @@ returns-in-Wait c =
 
 pub returns-in_default : goal.returns-in_default
 returns-in_default c =
-    let old = c.args.decoder.now in
-    let new = c.next_frame-frame.new.self in
+    let old = c.args.decoder.now.state in
+    let new = c.next_frame-frame.new.self.state in
     let first = string_bytes c.push_first_part.new.line in
     let lines = string_bytes c.push_pulled_line.new.line in
     let come = next_ok old new (next_as item_of c.next_frame-frame.result) first lines c.push_pulled_line.result

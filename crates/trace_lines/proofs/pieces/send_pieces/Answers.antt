@@ -7,8 +7,7 @@ use Rattle.trace_lines.proofs.pieces.send_pieces.Goals.{in-Ok+in_ok-status-in-Ok
 
 pub reads-init : goal.reads-init
 reads-init g c = record {
-  sent = nothing_sent _ _ c.new-decoder.result c.new-decoder.ensures
-      (new_waits c.new-decoder.result c.new-decoder.ensures);
+  sent = nothing_sent _ _ c.args.decoder.now.state c.requires (new_waits c.args.decoder.now.state c.requires);
 }
 
 pub returns-in-Ok-eq0 : goal.returns-in-Ok-eq0
@@ -20,13 +19,13 @@ returns-in-Ok-eq0 g c =
 
 pub returns-in_err-status-in-Ok : goal.returns-in_err-status-in-Ok
 returns-in_err-status-in-Ok g c =
-    piece_failed _ c.send_piece.new.decoder _ _ c.in_err-status-in-Ok.field-0 c.from_residual.result
+    piece_failed _ c.send_piece.new.decoder.state _ _ c.in_err-status-in-Ok.field-0 c.from_residual.result
     c.from_residual.ensures.0
     c.reads.invariant.sent c.in-Ok.ensures.bytes.0 c.in_err-status-in-Ok.ensures
 
 pub returns-in-Some : goal.returns-in-Some
 returns-in-Some g c =
-    piece_ends _ c.send_piece.new.decoder _ _ c.in-Some.status c.in_ok-status-in-Ok.field-0 c.in-Some.is
+    piece_ends _ c.send_piece.new.decoder.state _ _ c.in-Some.status c.in_ok-status-in-Ok.field-0 c.in-Some.is
     c.reads.invariant.sent
     c.in-Ok.ensures.bytes.0 c.in_ok-status-in-Ok.ensures
 

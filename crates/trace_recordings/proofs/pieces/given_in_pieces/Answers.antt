@@ -11,8 +11,8 @@ loop-piece-preserved c =
     let steps = c.in-Some.ensures.steps in
     let size = c.loop-piece.invariant.2 in
     let one : TakesOne c.args.size c.loop-piece.frames.items c.feed_one.new.frames.items
-    (chunks_rest c.loop-piece.piece-iterator) (chunks_rest c.next.new.self) c.loop-piece.decoder
-    c.feed_one.new.decoder = record {
+    (chunks_rest c.loop-piece.piece-iterator) (chunks_rest c.next.new.self) c.loop-piece.decoder.state
+    c.feed_one.new.decoder.state = record {
       piece = c.in-Some.piece.now;
       parts = steps.1.0;
       some = steps.1.2;
@@ -30,14 +30,14 @@ returns c =
     let none = nil_from_length (chunks_rest c.loop-piece.piece-iterator) c.in-None.ensures.steps.1.0 in
     let all =
     fed_all c.args.size c.args.trace.now c.loop-piece.frames.items (chunks_rest c.loop-piece.piece-iterator)
-    c.loop-piece.decoder c.loop-piece.invariant.3 none in
+    c.loop-piece.decoder.state c.loop-piece.invariant.3 none in
     record {
       calls = all.0;
-      end = c.loop-piece.decoder;
+      end = c.loop-piece.decoder.state;
       fed = all.1;
       all = all.2;
       position = c.position.ensures;
       schemas = c.schema_count.ensures
           ∙ ap (λ r. counted_up 0 (length (map.entries r.wire_types))) c.registry.ensures;
-      conflict = c.conflict_of.ensures ∙ pointed_to c.fault.result c.loop-piece.decoder.fault c.fault.ensures;
+      conflict = c.conflict_of.ensures ∙ pointed_to c.fault.result c.loop-piece.decoder.state.fault c.fault.ensures;
     }

@@ -7,4 +7,4 @@ abbrev pub invariant-loop-piece : goal.invariant-loop-piece
 invariant-loop-piece l =
     goal.iterator-loop-piece.can_next l.piece-iterator × goal.iterator-loop-piece.is_finite l.piece-iterator
     × (chunks_size l.piece-iterator ≡ l.size)
-    × FedSoFar l.size l.trace l.frames.items (chunks_rest l.piece-iterator) l.decoder
+    × FedSoFar l.size l.trace l.frames.items (chunks_rest l.piece-iterator) l.decoder.state

@@ -7,6 +7,7 @@ use dial9_trace_format::codec::{PoolEntry, StackPoolEntry};
 use dial9_trace_format::encoder::Encoder;
 use dial9_trace_format::leb128::EncodeError;
 use std::alloc::{AllocError, Global};
+use std::hash::RandomState;
 use std::process::Abort;
 use std::test::Fail;
 
@@ -32,11 +33,23 @@ fn sized(alloc: Global, size: usize) -> Result<Vec<u8>, EncodeError> {
     Ok(encoder.finish())
 }
 
+/// The same of an encoder that hashes by this state.
+fn sized_by(alloc: Global, state: RandomState, size: usize) -> Result<Vec<u8>, EncodeError> {
+    let mut encoder = Encoder::new_with_hasher(alloc, state)?;
+    put_text(alloc, &mut encoder, size)?;
+    put_stack(alloc, &mut encoder, size)?;
+    Ok(encoder.finish())
+}
+
+/// A text and a stack of this size are read of what was written.
+fn check_read(rt: &impl Abort, alloc: Global, bytes: &[u8], size: usize) -> Result<(), Fail> {
+    assert!(rt; bytes.len() == size.saturating_mul(9).saturating_add(31));
+    check_trace(rt, alloc, bytes, 2)
+}
+
 /// A text and a stack of this size are interned and read.
 fn check_sized(rt: &impl Abort, alloc: Global, size: usize) -> Result<(), Fail> {
-    let bytes = sized(alloc, size)?;
-    assert!(rt; bytes.len() == size.saturating_mul(9).saturating_add(31));
-    check_trace(rt, alloc, &bytes, 2)
+    check_read(rt, alloc, &sized(alloc, size)?, size)
 }
 
 #[test]
@@ -45,6 +58,15 @@ fn texts_and_stacks_of_each_size(rt: HostRuntime) -> Result<(), Fail> {
         check_sized(&rt, rt.alloc(), size)?;
     }
     check_sized(&rt, rt.alloc(), MILLION)
+}
+
+#[test]
+fn texts_and_stacks_of_each_size_by_a_state(rt: HostRuntime) -> Result<(), Fail> {
+    let state = RandomState::new(&rt)?;
+    for size in SIZES {
+        check_read(&rt, rt.alloc(), &sized_by(rt.alloc(), state, size)?, size)?;
+    }
+    Ok(())
 }
 
 /// So many entries of the empty text.

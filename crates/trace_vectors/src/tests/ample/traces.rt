@@ -1,6 +1,8 @@
-//! What was written, read at once by both readers, and copied. `tools/ample` has it read one by one, and by a sink.
+//! What was written, read at once by both readers, fed in pieces, and copied. `tools/ample` has it read one by one, and
+//! by a sink.
 
 use crate::tests::ample::borrowed::is_borrowed;
+use crate::tests::ample::fed::{is_fed, is_pulled};
 use crate::tests::calls::{all, decoder_of};
 use dial9_trace_format::decoder::DecodedFrame;
 use std::alloc::{AllocError, Global};
@@ -33,11 +35,13 @@ fn are_copied(alloc: Global, frames: &[DecodedFrame]) -> Result<bool, AllocError
     Ok(true)
 }
 
-/// The trace is read whole as so many frames, also borrowed ones.
+/// The trace is read whole as so many frames, also borrowed ones, and in pieces.
 pub fn check_trace(rt: &impl Abort, alloc: Global, bytes: &[u8], count: usize) -> Result<(), Fail> {
     let frames = all_to_the_end(alloc, bytes)?;
     assert!(rt; frames.len() == count);
     assert!(rt; are_copied(alloc, &frames)?);
     assert!(rt; is_borrowed(alloc, bytes, &frames)?);
+    assert!(rt; is_fed(alloc, bytes, 4_096, &frames)?);
+    assert!(rt; is_pulled(alloc, bytes, usize::MAX, &frames)?);
     Ok(())
 }

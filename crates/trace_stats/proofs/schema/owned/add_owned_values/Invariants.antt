@@ -1,4 +1,4 @@
-use Rattle.trace_stats.specs.OwnedEvents.{owned_event}
+use Rattle.trace_events.specs.OwnedEvents.{owned_event}
 use Rattle.trace_stats.proofs.SchemaLemmas.{AddedBelow}
 use Rattle.trace_stats.proofs.schema.owned.add_owned_values.Given as goal
 

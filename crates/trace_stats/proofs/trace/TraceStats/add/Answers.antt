@@ -1,7 +1,7 @@
 use Rattle.std.proofs.Common.{◌<◌, length, refl, rules}
 use Rattle.std.specs.Vec.{with_item}
 use Rattle.dial9_trace_format.specs.ShownEvents.{shown_event}
-use Rattle.trace_stats.specs.Events.{counted}
+use Rattle.trace_stats.specs.Events.{counted_event}
 use Rattle.trace_stats.specs.declared.trace.TraceStats.{TraceStats}
 use Rattle.trace_stats.proofs.TraceLemmas.{placed_inside, event_taken, event_refused}
 use Rattle.trace_stats.proofs.trace.TraceStats.add.Goals as goal
@@ -14,7 +14,7 @@ index_mut-requires c =
 
 pub returns-clause-added : goal.returns-clause-added
 returns-clause-added c =
-    event_taken c.add.result (counted (shown_event c.args.event.now) c.args.bytes) c.args.self.now _
+    event_taken c.add.result (counted_event (shown_event c.args.event.now) c.args.bytes) c.args.self.now _
     c.index_mut.result.now c.add.new.self c.answer_of.ensures c.in_ok-place.ensures.placed
     (record { at = c.index_mut.ensures.value; put = refl; same = c.add.ensures.schema }) c.add.ensures.added
 
@@ -25,5 +25,5 @@ returns-clause-refused c =
       schemas = with_item c.place_for.new.self.schemas c.in_ok-place.place c.add.new.self;
       guesses = c.place_for.new.self.guesses;
     } in
-    event_refused c.add.result (counted (shown_event c.args.event.now) c.args.bytes) c.args.self.now new
+    event_refused c.add.result (counted_event (shown_event c.args.event.now) c.args.bytes) c.args.self.now new
     c.index_mut.result.now c.answer_of.ensures c.in_ok-place.ensures.placed c.index_mut.ensures.value c.add.ensures.full

@@ -1,7 +1,7 @@
 use Rattle.std.proofs.Common.{◌<◌, length, refl, rules}
 use Rattle.std.specs.Vec.{with_item}
-use Rattle.trace_stats.specs.OwnedEvents.{owned_event}
-use Rattle.trace_stats.specs.Events.{counted}
+use Rattle.trace_events.specs.OwnedEvents.{owned_event}
+use Rattle.trace_stats.specs.Events.{counted_event}
 use Rattle.trace_stats.specs.declared.trace.TraceStats.{TraceStats}
 use Rattle.trace_stats.proofs.TraceLemmas.{placed_inside, event_taken, event_refused}
 use Rattle.trace_stats.proofs.trace.TraceStats.add_owned.Goals as goal
@@ -14,7 +14,7 @@ index_mut-requires c =
 
 pub returns-clause-added : goal.returns-clause-added
 returns-clause-added c =
-    event_taken c.add_owned.result (counted (owned_event c.args.event.now) c.args.bytes) c.args.self.now _
+    event_taken c.add_owned.result (counted_event (owned_event c.args.event.now) c.args.bytes) c.args.self.now _
     c.index_mut.result.now c.add_owned.new.self c.answer_of.ensures c.in_ok-place.ensures.placed
     (record { at = c.index_mut.ensures.value; put = refl; same = c.add_owned.ensures.schema }) c.add_owned.ensures.added
 
@@ -25,6 +25,6 @@ returns-clause-refused c =
       schemas = with_item c.place_for.new.self.schemas c.in_ok-place.place c.add_owned.new.self;
       guesses = c.place_for.new.self.guesses;
     } in
-    event_refused c.add_owned.result (counted (owned_event c.args.event.now) c.args.bytes) c.args.self.now new
+    event_refused c.add_owned.result (counted_event (owned_event c.args.event.now) c.args.bytes) c.args.self.now new
     c.index_mut.result.now c.answer_of.ensures c.in_ok-place.ensures.placed c.index_mut.ensures.value
     c.add_owned.ensures.full

@@ -1,0 +1,41 @@
+//! Converts the requests of a trace on standard input to a trace of their paths and durations (docs/USING.md,
+//! "Converting a trace").
+#![tactic(auto)]
+
+use anyhow::{Context, Result, bail};
+use dial9_trace_format::decoder::{Decoder, TryForEachError};
+use dial9_trace_format::encoder::Encoder;
+use dial9_trace_format::leb128::Plain;
+use std::io::{self, Read};
+use trace_converter::converter::Converter;
+use trace_converter::rules::Rule;
+
+/// Requests become `Served`, with two of their fields.
+const RULES: [Rule; 1] = [Rule {
+    from: "Request",
+    to: "Served",
+    slot: 1,
+    fields: &[("path", "url"), ("duration", "took")],
+}];
+
+fn main(rt: HostRuntime) -> Result<()> {
+    convert(&rt)
+}
+
+/// Writes the converted trace to standard output. An error where the input is no trace to its end, and where an event
+/// can't be converted.
+fn convert(rt: &(impl AllocGlobal + Input + Print)) -> Result<()> {
+    let mut input = Vec::new(rt.alloc());
+    rt.reader().read_to_end(&mut input)?;
+    let mut decoder = Decoder::new(rt.alloc(), &input).context("no trace")?;
+    let encoder = Encoder::new_to(rt.alloc(), Plain(io::writer(rt)))?;
+    let mut converter = Converter::new(rt.alloc(), &RULES, encoder);
+    match decoder.try_for_each_event(&mut converter) {
+        Ok(()) => {}
+        Err(TryForEachError::User(error)) => bail!("an event is not converted: {error}"),
+        Err(TryForEachError::Decode(error)) => bail!("at {}: {}", error.pos, error.kind),
+    }
+    let mut encoder = converter.into_encoder();
+    encoder.flush()?;
+    Ok(())
+}

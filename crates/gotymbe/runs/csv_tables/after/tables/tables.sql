@@ -1,0 +1,6 @@
+CREATE TABLE "1-Poll" (
+  "timestamp_ns" UBIGINT,
+  "worker" UBIGINT,
+  "cpu" UBIGINT,
+  "label" VARCHAR
+);

@@ -1,0 +1,309 @@
+//! Events as rows of tables, in files of a folder (docs/TOOLS.md, "Tables").
+
+use crate::output::{Place, begin_place};
+use crate::pieces::{FrameSink, Picked};
+use csv::{ByteRecord, Writer};
+use dial9_trace_format::decoder::{DecodedFrame, FeedDecoder};
+use gotymbe_plan::ending::Ending;
+use std::alloc::{AllocError, Global};
+use std::fs::File;
+use std::mem;
+use std::rt::Files;
+use trace_csv::cells::put_owned_event;
+use trace_csv::columns::put_columns;
+use trace_csv::files::table_name;
+use trace_csv::manifest::manifest_text;
+use trace_csv::tables::push_table;
+use trace_events::event::OwnedEvent;
+use trace_events::schema::is_same_schema;
+use trace_wire::schema::SchemaEntry;
+
+// The rows of a table are written once they have so many bytes, and those of all tables once these have so many.
+const ENOUGH: u64 = 65_536;
+
+const TOO_MUCH: u64 = 8_388_608;
+
+// How many places of tables are looked at first, by wire id.
+const GUESSES: usize = 256;
+
+// The events of a schema.
+#[derive(Drop)]
+struct Table {
+    schema: SchemaEntry,
+    name: String,
+    place: Place,
+    rows: u64,
+    // Rows that are not written yet, and how many bytes their cells have.
+    text: Writer<Vec<u8>>,
+    held: u64,
+}
+
+/// Writes the events that are asked for as rows of tables. At most one file is open at a time.
+#[derive(Drop)]
+pub(crate) struct Tables<'c, 'r, R: AllocGlobal + Files<File = File>> {
+    rt: &'r R,
+    folder: &'c str,
+    force: bool,
+    pub(crate) picked: Picked<'c>,
+    tables: Vec<Table>,
+    guesses: [usize; 256],
+    row: ByteRecord,
+    held: u64,
+    /// The file that can't be written, once there is one.
+    pub(crate) failed: Option<String>,
+}
+
+impl<'c, 'r, R: AllocGlobal + Files<File = File>> Tables<'c, 'r, R> {
+    /// Tables of no events.
+    pub(crate) fn new(
+        rt: &'r R,
+        folder: &'c str,
+        force: bool,
+        picked: Picked<'c>,
+    ) -> Tables<'c, 'r, R> {
+        Tables {
+            rt,
+            folder,
+            force,
+            picked,
+            tables: Vec::new(rt.alloc()),
+            guesses: [0; GUESSES],
+            row: ByteRecord::new(rt.alloc()),
+            held: 0,
+            failed: None,
+        }
+    }
+
+    // Where the table of an event's schema stands: at the end, of no events, where it is new.
+    fn place_for(&mut self, event: &OwnedEvent<'_>) -> Result<usize, Ending> {
+        let guess = event.type_id.0 as usize % GUESSES;
+        let place = match place_of(&self.tables, self.guesses[guess], event.schema) {
+            Some(place) => place,
+            None => self.put_last(event.schema)?,
+        };
+        self.guesses[guess] = place;
+        Ok(place)
+    }
+
+    // Begins the table of a schema.
+    fn put_last(&mut self, schema: &SchemaEntry) -> Result<usize, Ending> {
+        let (alloc, place) = (self.rt.alloc(), self.tables.len());
+        let name = grown(table_name(alloc, place as u64 + 1, schema.name()))?;
+        let path = grown(path_of(alloc, self.folder, &name, "csv"))?;
+        let begun = self.begin(path)?;
+        let mut text = Writer::from_writer(Vec::new(alloc));
+        grown(put_columns(alloc, &mut self.row, schema.fields()))?;
+        if text.write_byte_record(&self.row).is_err() {
+            return Err(Ending::OutOfMemory);
+        }
+        let schema = grown(SchemaEntry::new(alloc, schema.name(), schema.fields()))?;
+        let table = Table {
+            schema,
+            name,
+            place: begun,
+            rows: 0,
+            text,
+            held: 0,
+        };
+        match self.tables.push(table) {
+            Ok(()) => Ok(place),
+            Err(_) => Err(Ending::OutOfMemory),
+        }
+    }
+
+    // Begins a file.
+    fn begin(&mut self, path: String) -> Result<Place, Ending> {
+        match begin_place(self.rt, path.as_str(), self.force) {
+            Ok(place) => Ok(place),
+            Err(ending) => {
+                self.failed = Some(path);
+                Err(ending)
+            }
+        }
+    }
+
+    // Appends the row of an event to those of a table that are not written yet.
+    fn push_row(&mut self, place: usize, event: &OwnedEvent<'_>) -> Result<(), Ending> {
+        grown(put_owned_event(self.rt.alloc(), &mut self.row, event))?;
+        let Some(table) = self.tables.get_mut(place) else {
+            return Ok(());
+        };
+        if table.text.write_byte_record(&self.row).is_err() {
+            return Err(Ending::OutOfMemory);
+        }
+        let bytes = self.row.as_slice().len() as u64;
+        table.rows = table.rows.saturating_add(1);
+        table.held = table.held.saturating_add(bytes);
+        self.held = self.held.saturating_add(bytes);
+        if table.held >= ENOUGH {
+            return self.write_rows(place);
+        }
+        if self.held >= TOO_MUCH {
+            return self.write_all_rows();
+        }
+        Ok(())
+    }
+
+    // Writes the rows of all tables.
+    fn write_all_rows(&mut self) -> Result<(), Ending> {
+        for place in 0..self.tables.len() {
+            self.write_rows(place)?;
+        }
+        Ok(())
+    }
+
+    // Writes the rows of a table that are not written yet.
+    fn write_rows(&mut self, place: usize) -> Result<(), Ending> {
+        let alloc = self.rt.alloc();
+        let Some(table) = self.tables.get_mut(place) else {
+            return Ok(());
+        };
+        let next = Writer::from_writer(Vec::new(alloc));
+        let Ok(rows) = mem::replace(&mut table.text, next).into_inner() else {
+            return Err(Ending::OutOfMemory);
+        };
+        self.held = self.held.saturating_sub(table.held);
+        table.held = 0;
+        let appended = table.place.append(self.rt, &rows);
+        match appended {
+            Ok(()) => Ok(()),
+            Err(ending) => {
+                self.failed = Some(grown(path_of(alloc, self.folder, &table.name, "csv"))?);
+                Err(ending)
+            }
+        }
+    }
+
+    /// Writes what is not written yet, the texts that create the tables and the manifest, and puts all files under
+    /// their names.
+    pub(crate) fn finish(&mut self) -> Result<(), Ending> {
+        self.write_all_rows()?;
+        let (sql, manifest) = grown(self.texts())?;
+        let sql = self.write_text("tables.sql", sql.as_bytes())?;
+        let manifest = match self.write_text("tables.jsonl", manifest.as_slice()) {
+            Ok(manifest) => manifest,
+            Err(ending) => {
+                sql.give_up(self.rt);
+                return Err(ending);
+            }
+        };
+        self.put_under_names(sql, manifest)
+    }
+
+    // The texts that create the tables, and the lines of the manifest.
+    fn texts(&self) -> Result<(String, Vec<u8>), AllocError> {
+        let alloc = self.rt.alloc();
+        let (mut sql, mut manifest) = (String::new(alloc), Vec::new(alloc));
+        for table in self.tables.as_slice() {
+            push_table(alloc, &mut sql, &table.name, table.schema.fields())?;
+            let told = manifest_text(alloc, &table.name, &table.schema, table.rows)?;
+            manifest.extend_from_slice(told.as_slice())?;
+            manifest.push(b'\n')?;
+        }
+        Ok((sql, manifest))
+    }
+
+    // Writes a file of the folder beside its name.
+    fn write_text(&mut self, name: &str, text: &[u8]) -> Result<Place, Ending> {
+        let path = grown(format!(in self.rt.alloc(); "{}/{name}", self.folder))?;
+        let place = self.begin(path)?;
+        match place.append(self.rt, text) {
+            Ok(()) => Ok(place),
+            Err(ending) => {
+                place.give_up(self.rt);
+                self.failed = Some(grown(String::from_str(self.rt.alloc(), name))?);
+                Err(ending)
+            }
+        }
+    }
+
+    // Puts all files under their names, the manifest last.
+    fn put_under_names(&mut self, sql: Place, manifest: Place) -> Result<(), Ending> {
+        let mut put = Ok(());
+        for table in mem::replace(&mut self.tables, Vec::new(self.rt.alloc())) {
+            put = self.put_after(put, table.place);
+        }
+        put = self.put_after(put, sql);
+        self.put_after(put, manifest)
+    }
+
+    // Puts a file under its name, and removes it where one before it could not be put there.
+    fn put_after(&mut self, before: Result<(), Ending>, place: Place) -> Result<(), Ending> {
+        match before {
+            Ok(()) => self.put_under_name(place),
+            Err(ending) => {
+                place.give_up(self.rt);
+                Err(ending)
+            }
+        }
+    }
+
+    fn put_under_name(&mut self, place: Place) -> Result<(), Ending> {
+        match place.finish(self.rt) {
+            Ok(()) => Ok(()),
+            Err((path, ending)) => {
+                self.failed = Some(path);
+                Err(ending)
+            }
+        }
+    }
+
+    /// Removes what was written.
+    pub(crate) fn give_up(&mut self) {
+        for table in mem::replace(&mut self.tables, Vec::new(self.rt.alloc())) {
+            table.place.give_up(self.rt);
+        }
+    }
+}
+
+impl<R: AllocGlobal + Files<File = File>> FrameSink for Tables<'_, '_, R> {
+    fn begin(&mut self, _: u8) -> Result<(), Ending> {
+        Ok(())
+    }
+
+    fn frame<'f>(
+        &mut self,
+        frame: &'f DecodedFrame,
+        decoder: &'f FeedDecoder,
+        _: u64,
+    ) -> Result<(), Ending> {
+        let Some(event) = self.picked.pick(frame, decoder)? else {
+            return Ok(());
+        };
+        let place = self.place_for(&event)?;
+        self.push_row(place, &event)
+    }
+
+    fn settle(&mut self) -> Result<(), Ending> {
+        Ok(())
+    }
+
+    fn end(&mut self, _: Ending, _: usize) -> Result<(), Ending> {
+        Ok(())
+    }
+}
+
+// Where the table of a schema stands, if it does: at the guessed place, or elsewhere.
+fn place_of(tables: &[Table], guess: usize, schema: &SchemaEntry) -> Option<usize> {
+    if let Some(table) = tables.get(guess) {
+        if is_same_schema(&table.schema, schema) {
+            return Some(guess);
+        }
+    }
+    tables
+        .iter()
+        .position(|table| is_same_schema(&table.schema, schema))
+}
+
+// The name of a file of a folder.
+fn path_of(alloc: Global, folder: &str, name: &str, ending: &str) -> Result<String, AllocError> {
+    format!(in alloc; "{folder}/{name}.{ending}")
+}
+
+// An ending for want of memory.
+fn grown<T>(made: Result<T, AllocError>) -> Result<T, Ending> {
+    match made {
+        Ok(made) => Ok(made),
+        Err(_) => Err(Ending::OutOfMemory),
+    }
+}

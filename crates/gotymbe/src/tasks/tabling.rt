@@ -1,0 +1,74 @@
+//! Writing events as tables.
+
+use crate::output::make_folder;
+use crate::pieces::{Picked, read_named};
+use crate::tables::Tables;
+use crate::tasks::{Call, tell};
+use gotymbe_plan::ending::{Ending, is_kept};
+use std::alloc::AllocError;
+use std::fs;
+use std::fs::File;
+use std::rt::{Clock, Files};
+use trace_lines::dump::{FAILED, WHOLE};
+
+/// Writes the events of all files as tables into the files of a folder.
+pub(crate) fn write_tables(
+    rt: &(impl AllocGlobal + Files<File = File> + Input + Eprint + Clock),
+    call: &Call<'_>,
+) -> Result<u8, AllocError> {
+    let Some(folder) = call.asked.output else {
+        return Ok(FAILED);
+    };
+    let made = match make_folder(rt, folder) {
+        Ok(made) => made,
+        Err(ending) => return tell(rt, folder, ending),
+    };
+    let status = fill_folder(rt, call, folder)?;
+    if made && !is_kept(status) {
+        let _ = fs::remove_dir(rt, folder);
+    }
+    Ok(status)
+}
+
+// Writes the tables into a folder that is there.
+fn fill_folder(
+    rt: &(impl AllocGlobal + Files<File = File> + Input + Eprint + Clock),
+    call: &Call<'_>,
+    folder: &str,
+) -> Result<u8, AllocError> {
+    let mut tables = Tables::new(rt, folder, call.asked.force, Picked::of(call));
+    let mut status = WHOLE;
+    for name in call.asked.files.as_slice() {
+        tables.picked = Picked::of(call);
+        let ending = read_named(rt, call, name, &mut tables);
+        if let Ending::Unwritten(_) = ending {
+            tables.give_up();
+            return tell_failed(rt, folder, &tables, ending);
+        }
+        status = status.max(tell(rt, name, ending)?);
+    }
+    if !is_kept(status) {
+        tables.give_up();
+        return Ok(status);
+    }
+    match tables.finish() {
+        Ok(()) => Ok(status),
+        Err(ending) => {
+            tables.give_up();
+            tell_failed(rt, folder, &tables, ending)
+        }
+    }
+}
+
+// Tells which file of the folder can't be written, and why.
+fn tell_failed<R: AllocGlobal + Files<File = File> + Eprint>(
+    rt: &R,
+    folder: &str,
+    tables: &Tables<'_, '_, R>,
+    ending: Ending,
+) -> Result<u8, AllocError> {
+    match &tables.failed {
+        Some(path) => tell(rt, path.as_str(), ending),
+        None => tell(rt, folder, ending),
+    }
+}

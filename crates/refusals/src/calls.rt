@@ -1,0 +1,74 @@
+//! Calls of decoders that promise nothing, so that proofs of what makes many of them stay small.
+
+use dial9_trace_format::decoder::{
+    DecodeError, DecodedFrame, DecodedFrameRef, Decoder, EventSink, EventVisitor, FeedDecoder,
+    TryForEachError,
+};
+use std::alloc::{AllocError, Global};
+
+/// `Decoder::new`, of bytes that begin with a header.
+pub fn decoder_of(alloc: Global, bytes: &[u8]) -> Result<Decoder<'_>, AllocError> {
+    Decoder::new(alloc, bytes).ok_or(AllocError)
+}
+
+/// `Decoder::position`.
+pub fn place_of(decoder: &Decoder<'_>) -> usize {
+    decoder.position()
+}
+
+/// `Decoder::next_frame`.
+pub fn next_owned(decoder: &mut Decoder<'_>) -> Result<Option<DecodedFrame>, DecodeError> {
+    decoder.next_frame()
+}
+
+/// `Decoder::next_frame_ref`.
+pub fn next_borrowed<'a>(
+    decoder: &mut Decoder<'a>,
+) -> Result<Option<DecodedFrameRef<'a>>, DecodeError> {
+    decoder.next_frame_ref()
+}
+
+/// `Decoder::decode_all`.
+pub fn all_owned(decoder: &mut Decoder<'_>) -> Result<Vec<DecodedFrame>, DecodeError> {
+    decoder.decode_all()
+}
+
+/// `Decoder::decode_all_ref`.
+pub fn all_borrowed<'a>(
+    decoder: &mut Decoder<'a>,
+) -> Result<Vec<DecodedFrameRef<'a>>, DecodeError> {
+    decoder.decode_all_ref()
+}
+
+/// `Decoder::next`.
+pub fn step<'a>(decoder: &mut Decoder<'a>) -> Option<Result<DecodedFrameRef<'a>, DecodeError>> {
+    decoder.next()
+}
+
+/// `Decoder::events` and their `next`.
+pub fn step_events<'a>(
+    decoder: &mut Decoder<'a>,
+) -> Option<Result<DecodedFrameRef<'a>, DecodeError>> {
+    decoder.events().next()
+}
+
+/// `Decoder::try_for_each_event`.
+pub fn show<'a, E, S: EventSink<'a, E>>(
+    decoder: &mut Decoder<'a>,
+    sink: &mut S,
+) -> Result<(), TryForEachError<E>> {
+    decoder.try_for_each_event(sink)
+}
+
+/// `Decoder::for_each_event`.
+pub fn visit<'a, V: EventVisitor<'a>>(
+    decoder: &mut Decoder<'a>,
+    visitor: &mut V,
+) -> Result<(), DecodeError> {
+    decoder.for_each_event(visitor)
+}
+
+/// `FeedDecoder::feed`.
+pub fn feed(decoder: &mut FeedDecoder, piece: &[u8]) -> Result<Vec<DecodedFrame>, DecodeError> {
+    decoder.feed(piece)
+}

@@ -1,0 +1,69 @@
+//! What the program does and prints.
+
+use crate::heap::is_there;
+use crate::tallies::Tallies;
+use crate::verdict::Counts;
+use std::io::Read;
+use std::process::ExitCode;
+use worked_traces::ALL;
+
+/// Runs the program.
+pub fn run(rt: &(impl AllocGlobal + Input + Print + Eprint)) -> ExitCode {
+    match run_all(rt) {
+        Ok(true) => ExitCode::SUCCESS,
+        Ok(false) => ExitCode::FAILURE,
+        Err(error) => {
+            let _ = eprintln!(rt; "refusals: {error:#}");
+            ExitCode::FAILURE
+        }
+    }
+}
+
+/// Tries the calls of the worked traces and of those on standard input, one a line, two hexadecimal digits a byte.
+fn run_all(rt: &(impl AllocGlobal + Input + Print)) -> anyhow::Result<bool> {
+    let alloc = rt.alloc();
+    let refuses = is_there(alloc);
+    let mut input = Vec::new(alloc);
+    rt.reader().read_to_end(&mut input)?;
+    let mut tallies = Tallies::new();
+    let mut traces: u64 = 0;
+    tallies.try_samples(alloc)?;
+    for worked in ALL {
+        tallies.try_worked(alloc, worked)?;
+    }
+    for line in str::from_utf8(&input)?.lines() {
+        tallies.try_trace(alloc, &hex::decode(alloc, line)?)?;
+        traces = traces.saturating_add(1);
+    }
+    let heap = if refuses {
+        "growths are refused"
+    } else {
+        "no growth is refused"
+    };
+    println!(rt; "{heap}; {} worked traces, {traces} others", ALL.len())?;
+    tell(rt, refuses, &tallies)
+}
+
+/// Prints a line for each kind of calls, and answers whether all is right.
+fn tell(rt: &impl Print, refuses: bool, tallies: &Tallies) -> anyhow::Result<bool> {
+    let mut good = true;
+    for (name, counts) in [
+        ("one event over an array", &tallies.row),
+        ("calls over an array", &tallies.array),
+        ("calls over a list", &tallies.list),
+        ("lists of calls", &tallies.lists),
+        ("readers", &tallies.readers),
+        ("fed decoders", &tallies.fed),
+        ("dumps", &tallies.dumps),
+        ("resolved events", &tallies.resolved),
+        ("encoders after a trace", &tallies.resumed),
+        ("copies", &tallies.copies),
+        ("values", &tallies.values),
+        ("schemas and registries", &tallies.schemas),
+    ] {
+        println!(rt; "{name}: {counts}")?;
+        good = counts.is_right(refuses, true) && good;
+    }
+    println!(rt; "calls that take no memory: {}", tallies.free)?;
+    Ok(tallies.free.is_right(refuses, false) && good)
+}

@@ -1,0 +1,106 @@
+//! Encoders that go on after a trace, each growth of which is refused.
+
+ghost use Rattle.trace_samples.specs.Telling.{all_told};
+
+use crate::calls::{all_owned, decoder_of};
+use crate::heap::{refuse, was_refused};
+use crate::sweep::Trial;
+use crate::verdict::{Answer, Seen};
+use dial9_trace_format::decoder::Decoder;
+use dial9_trace_format::encoder::{Call, Reply, run_calls};
+use dial9_trace_format::leb128::{EncodeError, TraceWrite};
+use std::alloc::{AllocError, Global};
+use std::io;
+use trace_samples::{Manner, Told};
+use trace_values::leb128::Faults;
+
+/// A trace that was read to its end, the calls that come then, and what they answer and write.
+#[derive(Drop)]
+pub struct Resuming<'b> {
+    bytes: &'b [u8],
+    calls: Vec<Call>,
+    replies: Vec<Reply>,
+    written: Vec<u8>,
+}
+
+/// A decoder that has read the bytes to their end.
+fn read(alloc: Global, bytes: &[u8]) -> Result<Decoder<'_>, AllocError> {
+    let mut decoder = decoder_of(alloc, bytes)?;
+    let _ = all_owned(&mut decoder);
+    Ok(decoder)
+}
+
+/// What comes of these calls after the trace; `None` where no encoder goes on after it.
+pub fn after_trace(
+    alloc: Global,
+    bytes: &[u8],
+    calls: Vec<Call>,
+) -> Result<Option<Resuming<'_>>, AllocError> {
+    let mut encoder = match read(alloc, bytes)?.into_encoder(Told::new(Manner::SOUND)) {
+        Ok(encoder) => encoder,
+        Err(EncodeError::OutOfMemory) => return Err(AllocError),
+        Err(_) => return Ok(None),
+    };
+    let replies = run_calls(alloc, &mut encoder, &calls)?;
+    let written = Vec::from_slice(alloc, encoder.as_inner().bytes())?;
+    Ok(Some(Resuming {
+        bytes,
+        calls,
+        replies,
+        written,
+    }))
+}
+
+/// A writer that its owner sees again.
+#[derive(Drop)]
+struct Lent<'w>(&'w mut Told);
+
+impl<'w> TraceWrite for Lent<'w> {
+    ghost told = { λ l. all_told l.0.now };
+
+    fn send(&mut self, piece: &[u8]) -> io::Result<usize> {
+        self.0.send(piece)
+    }
+
+    fn settle(&mut self) -> io::Result<()> {
+        self.0.settle()
+    }
+}
+
+/// The encoder is made over a writer that is lent to it, to which a refusal sends nothing.
+impl Trial for Resuming<'_> {
+    fn seen(&self, alloc: Global, number: u32) -> Result<Seen, AllocError> {
+        let mut writer = Told::new(Manner::SOUND);
+        let mut seen = self.seen_over(alloc, number, Lent(&mut writer))?;
+        let sent = if seen.answer == Answer::Same {
+            self.written.as_slice()
+        } else {
+            &[]
+        };
+        seen.right = seen.right && writer.bytes() == sent && writer.faults() == Faults::NoFault;
+        Ok(seen)
+    }
+}
+
+impl Resuming<'_> {
+    fn seen_over(&self, alloc: Global, number: u32, writer: Lent<'_>) -> Result<Seen, AllocError> {
+        let decoder = read(alloc, self.bytes)?;
+        refuse(alloc, number);
+        let told = decoder.into_encoder(writer);
+        let refused = was_refused(alloc);
+        let answer = match &told {
+            Ok(_) => Answer::Same,
+            Err(EncodeError::OutOfMemory) => Answer::Memory,
+            Err(_) => Answer::Other,
+        };
+        let right = match told {
+            Ok(mut encoder) => run_calls(alloc, &mut encoder, &self.calls)? == self.replies,
+            Err(_) => true,
+        };
+        Ok(Seen {
+            refused,
+            answer,
+            right,
+        })
+    }
+}

@@ -1,0 +1,203 @@
+//! The calls that are tried, by kinds.
+
+use crate::asks::{Ask, ask_of};
+use crate::calls::{all_owned, decoder_of};
+use crate::copies::sweep_copies;
+use crate::dumping::{DUMPS, dump_of};
+use crate::encoding::{InArray, InList, turn_of};
+use crate::feeding::{Feeding, Form};
+use crate::free::{OfDecoders, OfEncoders, OfRegistries, OfValues, sweep_events};
+use crate::lists::list_of;
+use crate::parts::{FieldsOfType, NewEncoder, NewEncoderTo, sweep_registry};
+use crate::plan::{Plan, plan_of};
+use crate::reading::Reading;
+use crate::resolving::{sweep_fed, sweep_shown};
+use crate::resuming::after_trace;
+use crate::rows::sweep_row;
+use crate::runs::{READERS, Reference, reference_of};
+use crate::samples::{
+    calls_of_trace, many, nested, of_types, of_types_that_own, with_pools, with_schemas,
+};
+use crate::sweep::sweep;
+use crate::values::{sweep_value, sweep_values};
+use crate::verdict::{Counts, Verdict};
+use dial9_trace_format::encoder::Call;
+use std::alloc::{AllocError, Global};
+use trace_samples::manner::ROOM;
+use worked_traces::{Worked, bytes_of, ends_of, parts_of};
+
+/// What was counted of each kind of calls.
+#[derive(Drop)]
+pub struct Tallies {
+    /// The trace of one event over an array.
+    pub row: Counts,
+    /// Calls of an encoder over an array.
+    pub array: Counts,
+    /// The same over a list that grows.
+    pub list: Counts,
+    /// Lists of calls.
+    pub lists: Counts,
+    /// Readers.
+    pub readers: Counts,
+    /// Decoders that are fed.
+    pub fed: Counts,
+    /// Dumps.
+    pub dumps: Counts,
+    /// Resolved events.
+    pub resolved: Counts,
+    /// Encoders that go on after a trace.
+    pub resumed: Counts,
+    /// Copies of frames and values.
+    pub copies: Counts,
+    /// Values by themselves.
+    pub values: Counts,
+    /// Schemas, their parts, and registries.
+    pub schemas: Counts,
+    /// Calls that take no memory.
+    pub free: Counts,
+}
+
+impl Tallies {
+    /// Nothing was tried.
+    pub fn new() -> Tallies {
+        let none = Counts::new();
+        Tallies {
+            row: none,
+            array: none,
+            list: none,
+            lists: none,
+            readers: none,
+            fed: none,
+            dumps: none,
+            resolved: none,
+            resumed: none,
+            copies: none,
+            values: none,
+            schemas: none,
+            free: none,
+        }
+    }
+
+    /// Tries calls of each kind that no trace is needed for.
+    pub fn try_samples(&mut self, alloc: Global) -> Result<(), AllocError> {
+        sweep_row(alloc, &mut self.row)?;
+        self.try_asks(alloc, of_types(alloc)?)?;
+        self.try_asks(alloc, of_types_that_own(alloc)?)?;
+        for calls in [with_schemas(alloc)?, with_pools(alloc)?, many(alloc)?] {
+            self.try_calls(alloc, calls)?;
+        }
+        sweep(alloc, &NewEncoder, &mut self.list)?;
+        sweep(alloc, &NewEncoderTo, &mut self.list)?;
+        sweep(alloc, &FieldsOfType, &mut self.schemas)?;
+        sweep_value(alloc, &nested(alloc)?, &mut self.values)?;
+        sweep(alloc, &OfValues, &mut self.free)
+    }
+
+    /// Tries the calls that write a worked trace, whose bytes and ends are known, and its bytes.
+    pub fn try_worked(&mut self, alloc: Global, worked: Worked) -> Result<(), AllocError> {
+        let bytes = bytes_of(worked);
+        let mut start: usize = 0;
+        for (steps, ends) in parts_of(alloc, worked)?.into_iter().zip(ends_of(worked)) {
+            let mut asks = Vec::new(alloc);
+            for step in steps {
+                asks.push(ask_of(step))?;
+            }
+            let plan = plan_of(alloc, asks)?;
+            let end = start.saturating_add(plan.bytes.len());
+            if bytes.get(start..end) != Some(plan.bytes.as_slice()) || ends.last() != Some(&end) {
+                self.array.add(Verdict::Wrong);
+            }
+            start = end;
+            self.try_plan(alloc, &plan)?;
+        }
+        self.try_bytes(alloc, bytes)
+    }
+
+    /// Tries the bytes of a trace, and the calls that would write its frames again.
+    pub fn try_trace(&mut self, alloc: Global, bytes: &[u8]) -> Result<(), AllocError> {
+        self.try_calls(alloc, calls_of_trace(alloc, bytes)?)?;
+        self.try_bytes(alloc, bytes)
+    }
+
+    /// Tries each of these calls, alone and as a list.
+    fn try_calls(&mut self, alloc: Global, calls: Vec<Call>) -> Result<(), AllocError> {
+        let listed = list_of(alloc, calls)?;
+        sweep(alloc, &listed, &mut self.lists)?;
+        sweep(alloc, &OfEncoders(&listed.calls), &mut self.free)?;
+        let mut asks = Vec::new(alloc);
+        for call in listed.calls {
+            asks.push(Ask::Call(call))?;
+        }
+        self.try_asks(alloc, asks)
+    }
+
+    /// Tries each of these calls.
+    fn try_asks(&mut self, alloc: Global, asks: Vec<Ask>) -> Result<(), AllocError> {
+        self.try_plan(alloc, &plan_of(alloc, asks)?)
+    }
+
+    /// Tries each call of a plan: over a list, and over an array where that has room for all.
+    fn try_plan(&mut self, alloc: Global, plan: &Plan) -> Result<(), AllocError> {
+        for index in 0..plan.calls.len() {
+            if let Some(turn) = turn_of(plan, index) {
+                sweep(alloc, &InList(turn), &mut self.list)?;
+                if plan.bytes.len() <= ROOM {
+                    sweep(alloc, &InArray(turn), &mut self.array)?;
+                }
+            }
+        }
+        Ok(())
+    }
+
+    /// Tries all that reads bytes.
+    fn try_bytes(&mut self, alloc: Global, bytes: &[u8]) -> Result<(), AllocError> {
+        for dump in DUMPS {
+            sweep(alloc, &dump_of(alloc, bytes, dump)?, &mut self.dumps)?;
+        }
+        let Some(reference) = reference_of(alloc, bytes)? else {
+            return Ok(());
+        };
+        self.try_readers(alloc, &reference)?;
+        sweep_shown(alloc, bytes, &mut self.resolved)?;
+        sweep_fed(alloc, bytes, &mut self.resolved)?;
+        sweep_copies(alloc, &reference, &mut self.copies)?;
+        sweep_values(alloc, &reference.owned, &mut self.values)?;
+        sweep(alloc, &OfDecoders(bytes), &mut self.free)?;
+        sweep_events(alloc, bytes, &mut self.free)?;
+        if let Some(trial) = after_trace(alloc, bytes, with_pools(alloc)?)? {
+            sweep(alloc, &trial, &mut self.resumed)?;
+        }
+        self.try_registry(alloc, bytes)
+    }
+
+    /// Has each reader read a trace, whole and in two pieces.
+    fn try_readers(&mut self, alloc: Global, reference: &Reference<'_>) -> Result<(), AllocError> {
+        for reader in READERS {
+            let whole = reference.run(reader, &mut decoder_of(alloc, reference.bytes)?);
+            let trial = Reading {
+                reference,
+                reader,
+                whole,
+            };
+            sweep(alloc, &trial, &mut self.readers)?;
+        }
+        for form in [Form::Feed, Form::Push] {
+            let place = reference.bytes.len() / 2;
+            let trial = Feeding {
+                reference,
+                form,
+                place,
+            };
+            sweep(alloc, &trial, &mut self.fed)?;
+        }
+        Ok(())
+    }
+
+    /// Tries the registry that a trace leaves.
+    fn try_registry(&mut self, alloc: Global, bytes: &[u8]) -> Result<(), AllocError> {
+        let mut decoder = decoder_of(alloc, bytes)?;
+        let _ = all_owned(&mut decoder);
+        sweep(alloc, &OfRegistries(decoder.registry()), &mut self.free)?;
+        sweep_registry(alloc, decoder.registry(), &mut self.schemas)
+    }
+}

@@ -1,0 +1,4 @@
+pub mod Rules
+pub mod Conversions
+pub mod Steps
+pub mod parts

@@ -1,0 +1,3 @@
+pub mod OwnedEvents
+pub mod Holding
+pub mod Schemas

@@ -1,0 +1,4 @@
+pub mod Stacks
+pub mod Tallies
+pub mod Events
+pub mod parts

@@ -1,0 +1,21 @@
+-- What stacks add up to.
+use Rattle.std.specs.Prelude.{◌≡◌, ℕ, ◌+◌, List, ◌++◌, String, if◌then◌else◌, codes, decimal, string_bytes}
+use Rattle.std.specs.BTreeMap.{get_by_text, BTreeMap}
+use Rattle.std.specs.Str.{bytes_eq}
+use Rattle.std.specs.Option.{unwrap_or}
+
+-- the number of a text, 0 where none is kept
+abbrev pub count_of : {Y : Type 0} → BTreeMap (String Y) ℕ → List ℕ → ℕ
+count_of m text = unwrap_or (get_by_text m text) 0
+
+-- so much for one text, and nothing for another
+abbrev pub if_same : List ℕ → List ℕ → ℕ → ℕ
+if_same text other more = if bytes_eq text other then more else 0
+
+-- the number of a text has become so much more, and that of each other is as it was
+abbrev pub CountsMore : {Y : Type 0} → BTreeMap (String Y) ℕ → BTreeMap (String Y) ℕ → List ℕ → ℕ → Type 0
+CountsMore old new text more = (other : List ℕ) → count_of new other ≡ count_of old other + if_same text other more
+
+-- the line of a text and its number
+abbrev pub count_line : {Y : Type 0} → String Y × ℕ → List ℕ
+count_line e = string_bytes e.0 ++ (codes " " ++ (decimal e.1 ++ codes "\n"))

@@ -1,0 +1,9 @@
+//! What the stacks of events add up to, as lines for flame graphs (docs/FORMAT.md, "Folded stacks").
+#![tactic(auto)]
+
+pub mod event;
+pub mod stack;
+pub mod tally;
+#[cfg(test)]
+mod tests;
+pub mod text;

@@ -1,0 +1,3 @@
+pub mod EscapedStrings
+pub mod EscapedNumbers
+pub mod EscapedText

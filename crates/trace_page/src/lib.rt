@@ -1,0 +1,10 @@
+//! The data of a page that shows a trace (viewer/DATA.md).
+#![tactic(auto)]
+
+mod columns;
+pub mod data;
+pub mod escaping;
+mod names;
+mod numbers;
+mod schemas;
+mod values;

@@ -1,0 +1,69 @@
+//! The texts and stacks that values name by their index.
+
+use indexmap::IndexSet;
+use std::alloc::{AllocError, Global};
+use trace_values::tri;
+
+/// Texts and stacks, each once, in the order in which they were named first.
+#[derive(Drop)]
+pub struct Names {
+    pub(crate) strings: IndexSet<String>,
+    pub(crate) stacks: IndexSet<Vec<u64>>,
+}
+
+impl Names {
+    /// No texts and no stacks. Takes no memory.
+    pub(crate) fn new(alloc: Global) -> Names {
+        Names {
+            strings: IndexSet::new(alloc),
+            stacks: IndexSet::new(alloc),
+        }
+    }
+}
+
+/// The index of a text, which is put in last where it is new. `AllocError` where a growth was refused.
+pub(crate) fn index_of_text(
+    alloc: Global,
+    strings: &mut IndexSet<String>,
+    text: &str,
+) -> Result<usize, AllocError> {
+    match strings.get_index_of(text) {
+        Some(index) => Ok(index),
+        None => {
+            let copy = tri!(String::from_str(alloc, text));
+            put_last_text(strings, copy)
+        }
+    }
+}
+
+// Puts a text in that is new, and answers its index.
+fn put_last_text(strings: &mut IndexSet<String>, text: String) -> Result<usize, AllocError> {
+    match strings.insert_full(text) {
+        Ok((index, _)) => Ok(index),
+        Err(_) => Err(AllocError),
+    }
+}
+
+/// The index of a stack, which is put in last where it is new. `AllocError` where a growth was refused.
+pub(crate) fn index_of_stack(
+    alloc: Global,
+    stacks: &mut IndexSet<Vec<u64>>,
+    stack: &[u64],
+) -> Result<usize, AllocError> {
+    match stacks.get_index_of(stack) {
+        Some(index) => Ok(index),
+        None => {
+            let mut copy = Vec::new(alloc);
+            tri!(copy.extend_from_slice(stack));
+            put_last_stack(stacks, copy)
+        }
+    }
+}
+
+// Puts a stack in that is new, and answers its index.
+fn put_last_stack(stacks: &mut IndexSet<Vec<u64>>, stack: Vec<u64>) -> Result<usize, AllocError> {
+    match stacks.insert_full(stack) {
+        Ok((index, _)) => Ok(index),
+        Err(_) => Err(AllocError),
+    }
+}

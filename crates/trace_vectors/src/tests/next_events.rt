@@ -1,0 +1,292 @@
+//! Events one by one, whose values are put into a list that is kept.
+
+use crate::tests::calls::decoder_of;
+use crate::tests::sinks::is_error;
+use crate::tests::traces::{CONFLICT, ONE_EVENT};
+use dial9_trace_format::codec::WireTypeId;
+use dial9_trace_format::decoder::{DecodeError, DecodeErrorKind, Decoder, EventHead};
+use dial9_trace_format::types::{
+    FieldValue, FieldValueRef, InternedStackFrames, InternedString, StackFrames,
+};
+use std::alloc::{AllocError, Global};
+use std::test::Fail;
+
+/// Header; the schema `Ev` of wire id 256, whose fields `a` to `q` are of the fifteen plain types in the order of their
+/// tags, and two of OptionalU8; the text `seven` under 7; an event of it at 1,000; an annotation of it; a stack under
+/// 1; a reset to 5,000; the schema `Two` of wire id 257 with the fields `a: Varint` and `b: Bool`; an event of it a
+/// nanosecond later with 7 and true.
+///
+/// A header; the schema `Ev` of wire id 256 with the field `v: Varint`; an event of it at 2 with 300.
+const TRACE: [u8; 313] = [
+    0x54, 0x52, 0x43, 0x00, 0x01, 0x01, 0x00, 0x01, 0x02, 0x00, 0x45, 0x76, 0x01, 0x11, 0x00, 0x01,
+    0x00, 0x61, 0x01, 0x01, 0x00, 0x62, 0x02, 0x01, 0x00, 0x63, 0x03, 0x01, 0x00, 0x64, 0x04, 0x01,
+    0x00, 0x65, 0x05, 0x01, 0x00, 0x66, 0x06, 0x01, 0x00, 0x67, 0x07, 0x01, 0x00, 0x68, 0x08, 0x01,
+    0x00, 0x69, 0x09, 0x01, 0x00, 0x6A, 0x0A, 0x01, 0x00, 0x6B, 0x0B, 0x01, 0x00, 0x6C, 0x0C, 0x01,
+    0x00, 0x6D, 0x0D, 0x01, 0x00, 0x6E, 0x0E, 0x01, 0x00, 0x6F, 0x0F, 0x01, 0x00, 0x70, 0x8B, 0x01,
+    0x00, 0x71, 0x8B, 0x03, 0x01, 0x00, 0x00, 0x00, 0x07, 0x00, 0x00, 0x00, 0x05, 0x00, 0x00, 0x00,
+    0x73, 0x65, 0x76, 0x65, 0x6E, 0x02, 0x00, 0x01, 0xE8, 0x03, 0x00, 0xFE, 0xFF, 0xFF, 0xFF, 0xFF,
+    0xFF, 0xFF, 0xFF, 0x00, 0x00, 0x00, 0x00, 0x00, 0x00, 0xF8, 0x3F, 0x01, 0x02, 0x00, 0x00, 0x00,
+    0x68, 0x69, 0x02, 0x00, 0x00, 0x00, 0xFF, 0x00, 0x03, 0x00, 0x00, 0x00, 0x04, 0x00, 0x00, 0x00,
+    0x02, 0x00, 0x00, 0x00, 0x10, 0x00, 0x00, 0x00, 0x00, 0x00, 0x00, 0x00, 0x20, 0x00, 0x00, 0x00,
+    0x00, 0x00, 0x00, 0x00, 0xAC, 0x02, 0x01, 0x00, 0x00, 0x00, 0x01, 0x00, 0x00, 0x00, 0x6B, 0x01,
+    0x00, 0x00, 0x00, 0x76, 0x05, 0x2C, 0x01, 0x70, 0x11, 0x01, 0x00, 0x02, 0x00, 0x00, 0x00, 0x09,
+    0x01, 0x03, 0x01, 0x01, 0x00, 0x00, 0x00, 0x04, 0x01, 0x00, 0x00, 0x00, 0x78, 0x09, 0x02, 0x01,
+    0x05, 0x00, 0x06, 0x80, 0x02, 0x01, 0x00, 0x00, 0x00, 0x04, 0x00, 0x75, 0x6E, 0x69, 0x74, 0x02,
+    0x00, 0x00, 0x00, 0x6E, 0x73, 0x04, 0x01, 0x00, 0x00, 0x00, 0x01, 0x00, 0x00, 0x00, 0x01, 0x00,
+    0x00, 0x00, 0x10, 0x00, 0x00, 0x00, 0x00, 0x00, 0x00, 0x00, 0x05, 0x88, 0x13, 0x00, 0x00, 0x00,
+    0x00, 0x00, 0x00, 0x01, 0x01, 0x01, 0x03, 0x00, 0x54, 0x77, 0x6F, 0x01, 0x02, 0x00, 0x01, 0x00,
+    0x61, 0x09, 0x01, 0x00, 0x62, 0x03, 0x02, 0x01, 0x01, 0x01, 0x00, 0x00, 0x07, 0x01, 0x54, 0x52,
+    0x43, 0x00, 0x01, 0x01, 0x00, 0x01, 0x02, 0x00, 0x45, 0x76, 0x01, 0x01, 0x00, 0x01, 0x00, 0x76,
+    0x09, 0x02, 0x00, 0x01, 0x02, 0x00, 0x00, 0xAC, 0x02,
+];
+
+/// The pair of `k` and `v`.
+fn one_pair(alloc: Global) -> Result<FieldValue, AllocError> {
+    let (key, value) = (vec![in alloc; 0x6B]?, vec![in alloc; 0x76]?);
+    Ok(FieldValue::StringMap(vec![in alloc; (key, value)]?))
+}
+
+/// The list of 1 and true.
+fn a_list(alloc: Global) -> Result<FieldValue, AllocError> {
+    let mut items = Vec::new(alloc);
+    items.push(FieldValue::Varint(1))?;
+    items.push(FieldValue::Bool(true))?;
+    Ok(FieldValue::List(items))
+}
+
+/// The map of `x` to 2.
+fn a_map(alloc: Global) -> Result<FieldValue, AllocError> {
+    let mut pairs = Vec::new(alloc);
+    pairs.push((FieldValue::string(alloc, "x")?, FieldValue::Varint(2)))?;
+    Ok(FieldValue::Map(pairs))
+}
+
+/// The addresses 16 and 32.
+fn a_stack(alloc: Global) -> Result<FieldValue, AllocError> {
+    Ok(FieldValue::StackFrames(StackFrames::from_slice(alloc, &[16, 32])?))
+}
+
+/// Those of the first seven fields of the first event.
+fn first_values(alloc: Global) -> Result<[FieldValue; 7], AllocError> {
+    Ok([
+        FieldValue::I64(-2),
+        FieldValue::F64(0x3FF8_0000_0000_0000),
+        FieldValue::Bool(true),
+        FieldValue::string(alloc, "hi")?,
+        FieldValue::Bytes(Vec::from_slice(alloc, &[0xFF, 0])?),
+        FieldValue::PooledStackFrames(InternedStackFrames::from_raw(3)),
+        FieldValue::PooledString(InternedString::from_raw(4)),
+    ])
+}
+
+/// Those of the other ten.
+fn other_values(alloc: Global) -> Result<[FieldValue; 10], AllocError> {
+    Ok([
+        a_stack(alloc)?,
+        FieldValue::Varint(300),
+        one_pair(alloc)?,
+        FieldValue::Varint(5),
+        FieldValue::Varint(300),
+        FieldValue::Varint(70_000),
+        a_list(alloc)?,
+        a_map(alloc)?,
+        FieldValue::Varint(5),
+        FieldValue::None,
+    ])
+}
+
+/// Goes to the next event, whose values are put into the list.
+fn next_owned(
+    decoder: &mut Decoder<'_>,
+    values: &mut Vec<FieldValue>,
+) -> Result<Option<EventHead>, DecodeError> {
+    decoder.next_event_into(values)
+}
+
+/// The same of values that stay in the input.
+fn next_shown<'a>(
+    decoder: &mut Decoder<'a>,
+    values: &mut Vec<FieldValueRef<'a>>,
+) -> Result<Option<EventHead>, DecodeError> {
+    decoder.next_event_ref_into(values)
+}
+
+/// The event's wire id and time are these.
+fn is_head(head: Option<EventHead>, id: u16, time: u64) -> bool {
+    match head {
+        Some(head) => head.type_id == WireTypeId(id) && head.timestamp_ns == time,
+        None => false,
+    }
+}
+
+/// The list has the values of the first event.
+fn are_all_kinds(alloc: Global, values: &[FieldValue]) -> Result<bool, AllocError> {
+    let (first, others) = (first_values(alloc)?, other_values(alloc)?);
+    Ok(values.get(..7) == Some(first.as_slice()) && values.get(7..) == Some(others.as_slice()))
+}
+
+/// What the decoder has taken along before the event that ends here: schemas, texts and stacks since the last header.
+fn knows(decoder: &Decoder<'_>, schemas: [bool; 2], texts: usize, stacks: usize) -> bool {
+    let registry = decoder.registry();
+    registry.get(WireTypeId(256)).is_some() == schemas[0]
+        && registry.get(WireTypeId(257)).is_some() == schemas[1]
+        && decoder.string_pool().len() == texts
+        && decoder.stack_pool().len() == stacks
+}
+
+/// The first schema has so many annotations.
+fn has_notes(decoder: &Decoder<'_>, count: usize) -> bool {
+    match decoder.registry().get(WireTypeId(256)) {
+        Some(schema) => schema.annotations().len() == count,
+        None => false,
+    }
+}
+
+/// After the first event stand the frames before it, and none after it.
+fn is_at_first(decoder: &Decoder<'_>) -> bool {
+    decoder.position() == 210 && knows(decoder, [true, false], 1, 0) && has_notes(decoder, 0)
+}
+
+/// The same of the second.
+fn is_at_second(decoder: &Decoder<'_>) -> bool {
+    decoder.position() == 286 && knows(decoder, [true, true], 1, 1) && has_notes(decoder, 1)
+}
+
+/// After the third, which stands in a trace of its own, nothing of the first trace is known.
+fn is_at_third(decoder: &Decoder<'_>) -> bool {
+    decoder.position() == 313
+        && decoder.headers() == 2
+        && knows(decoder, [true, false], 0, 0)
+        && has_notes(decoder, 0)
+}
+
+/// The first event comes, with a value of each kind.
+fn gives_first(
+    alloc: Global,
+    decoder: &mut Decoder<'_>,
+    values: &mut Vec<FieldValue>,
+) -> Result<bool, Fail> {
+    let is_first = is_head(next_owned(decoder, values)?, 256, 1_000);
+    Ok(is_first && are_all_kinds(alloc, values)? && is_at_first(decoder))
+}
+
+/// Then the second, with two values in place of all others.
+fn gives_second(decoder: &mut Decoder<'_>, values: &mut Vec<FieldValue>) -> Result<bool, Fail> {
+    let is_second = is_head(next_owned(decoder, values)?, 257, 5_001);
+    let two = [FieldValue::Varint(7), FieldValue::Bool(true)];
+    Ok(is_second && values.as_slice() == two.as_slice() && is_at_second(decoder))
+}
+
+/// Then the third, with one.
+fn gives_third(decoder: &mut Decoder<'_>, values: &mut Vec<FieldValue>) -> Result<bool, Fail> {
+    let is_third = is_head(next_owned(decoder, values)?, 256, 2);
+    Ok(
+        is_third
+            && values.as_slice() == [FieldValue::Varint(300)].as_slice()
+            && is_at_third(decoder),
+    )
+}
+
+/// Then none, and the list is empty.
+fn gives_none(decoder: &mut Decoder<'_>, values: &mut Vec<FieldValue>) -> Result<bool, Fail> {
+    Ok(
+        next_owned(decoder, values)?.is_none()
+            && values.is_empty()
+            && Decoder::position(decoder) == 313,
+    )
+}
+
+#[test]
+fn values_of_each_kind_into_one_list(rt: HostRuntime) -> Result<(), Fail> {
+    let mut decoder = decoder_of(rt.alloc(), &TRACE)?;
+    let mut values = Vec::new(rt.alloc());
+    assert!(rt; gives_first(rt.alloc(), &mut decoder, &mut values)?);
+    let room = values.capacity();
+    assert!(rt;
+        gives_second(&mut decoder, &mut values)? && gives_third(&mut decoder, &mut values)?
+    );
+    assert!(rt; gives_none(&mut decoder, &mut values)? && values.capacity() == room);
+    Ok(())
+}
+
+/// The answer is the conflict of wire id 256, which ends at 40.
+fn is_conflict(answer: Result<Option<EventHead>, DecodeError>) -> bool {
+    match answer {
+        Ok(_) => false,
+        Err(error) => is_error(&error, &DecodeErrorKind::Conflict(WireTypeId(256)), 40),
+    }
+}
+
+/// The call tells the conflict, and the list is empty then.
+fn tells_conflict(decoder: &mut Decoder<'_>, values: &mut Vec<FieldValue>) -> bool {
+    is_conflict(next_owned(decoder, values)) && values.is_empty()
+}
+
+/// So does the call of values in the input.
+fn shows_conflict<'a>(decoder: &mut Decoder<'a>, values: &mut Vec<FieldValueRef<'a>>) -> bool {
+    is_conflict(next_shown(decoder, values)) && values.is_empty()
+}
+
+/// The event before the conflict comes.
+fn gives_one_event(decoder: &mut Decoder<'_>, values: &mut Vec<FieldValue>) -> Result<bool, Fail> {
+    let is_first = is_head(next_owned(decoder, values)?, 256, 1_000);
+    Ok(is_first && values.as_slice() == [FieldValue::Varint(42)].as_slice())
+}
+
+/// A schema that conflicts is told each time, and the list is empty then, whatever stood in it.
+#[test]
+fn no_values_at_a_conflict(rt: HostRuntime) -> Result<(), Fail> {
+    let mut decoder = decoder_of(rt.alloc(), &CONFLICT)?;
+    let mut values = Vec::new(rt.alloc());
+    assert!(rt; gives_one_event(&mut decoder, &mut values)?);
+    assert!(rt; tells_conflict(&mut decoder, &mut values));
+    values.push(FieldValue::None)?;
+    let mut shown = vec![in rt.alloc(); FieldValueRef::None]?;
+    assert!(rt;
+        tells_conflict(&mut decoder, &mut values) && shows_conflict(&mut decoder, &mut shown)
+    );
+    Ok(())
+}
+
+/// A trace that is cut goes to the frame that is not whole: no event comes of it, and the list is empty.
+fn ends_empty(alloc: Global, bytes: &[u8], place: usize) -> Result<bool, Fail> {
+    let mut decoder = decoder_of(alloc, bytes)?;
+    let mut values = vec![in alloc; FieldValue::Bool(true)]?;
+    let mut shown = vec![in alloc; FieldValueRef::Bool(true)]?;
+    let none = next_owned(&mut decoder, &mut values)?.is_none() && values.is_empty();
+    let again = next_shown(&mut decoder, &mut shown)?.is_none() && shown.is_empty();
+    Ok(none && again && decoder.position() == place)
+}
+
+#[test]
+fn no_values_where_no_event_stands(rt: HostRuntime) -> Result<(), Fail> {
+    for cut in 5..26usize {
+        let place = if cut < 19 { 5 } else { 19 };
+        assert!(rt; ends_empty(rt.alloc(), &ONE_EVENT[..cut], place)?);
+    }
+    Ok(())
+}
+
+/// Header, the schema `K` with the field `f: String`, and an event of it at 0 with the byte FF.
+const NO_TEXT: [u8; 29] = [
+    0x54, 0x52, 0x43, 0x00, 0x01, 0x01, 0x00, 0x01, 0x01, 0x00, 0x4B, 0x01, 0x01, 0x00, 0x01, 0x00,
+    0x66, 0x04, 0x02, 0x00, 0x01, 0x00, 0x00, 0x00, 0x01, 0x00, 0x00, 0x00, 0xFF,
+];
+
+/// The reader of values in the input gives no event, and that of owned values one, whose text has U+FFFD.
+fn is_owned_alone(alloc: Global, decoder: &mut Decoder<'_>) -> Result<bool, Fail> {
+    let mut shown = vec![in alloc; FieldValueRef::Bool(true)]?;
+    let none = next_shown(decoder, &mut shown)?.is_none() && shown.is_empty();
+    let mut values = Vec::new(alloc);
+    let is_event = is_head(next_owned(decoder, &mut values)?, 256, 0);
+    let text = FieldValue::string(alloc, "\u{FFFD}")?;
+    Ok(none && is_event && values.as_slice() == [text].as_slice())
+}
+
+/// A string that is not UTF-8 is a value of its own, and none in the input.
+#[test]
+fn an_event_of_no_text(rt: HostRuntime) -> Result<(), Fail> {
+    let mut decoder = decoder_of(rt.alloc(), &NO_TEXT)?;
+    assert!(rt; is_owned_alone(rt.alloc(), &mut decoder)?);
+    Ok(())
+}
