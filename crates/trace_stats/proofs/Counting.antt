@@ -7,7 +7,7 @@ use Rattle.std.specs.List.{All, Contains, count_by}
 use Rattle.std.proofs.lemmas.Bool.{eqb-true, eqb-false}
 use Rattle.std.proofs.lemmas.List.{get_or-replicate, get_or-set_same, get_or-set_other}
 use Rattle.std.proofs.lemmas.List.Elements.{All-nil, All-push, Contains-push, Contains-append_left}
-use Rattle.std.proofs.lemmas.List.Sums.{sum_by_push, sum_by-le}
+use Rattle.std.proofs.lemmas.List.Sums.{sum_by_push, sum_by-le, count_by-le-length}
 use Rattle.trace_stats.specs.Summaries.{IsSummaryOf, binary_digits, most_counted}
 use Rattle.trace_stats.specs.declared.summary.Summary.{Summary}
 
@@ -103,13 +103,27 @@ no_number s count total digits = record {
   by_digits = λ k le. ap (λ (l : List ℕ). get_or l k 0) digits ∙ get_or-replicate 65 k 0 0 (omega arith);
 }
 
--- ---- where no more can be counted
+-- ---- what fits
 
--- the sum would be past 128 bits
-pub sum_full :
+-- where one more number of 64 bits can be counted, the sum with it has 128 bits
+pub sum_fits :
     (xs : List ℕ) (n : ℕ) (s : Summary) → IsSummaryOf xs s → s.greatest < 18446744073709551616 →
-    n < 18446744073709551616 → 340282366920938463463374607431768211456 ≤ s.sum + n → most_counted ≤ length xs
-sum_full xs n s is fits fits_n over =
+    n < 18446744073709551616 → s.count + 1 < 18446744073709551616 →
+    s.sum + n < 340282366920938463463374607431768211456
+sum_fits xs n s is fits fits_n room =
     let each : All (λ x. x ≤ most_counted) xs =
     λ k d here. let a : get_or xs k d ≤ s.greatest = is.none_greater k d here in omega arith in
-    omega (arith, sum_by-le (λ x. x) most_counted xs each, is.sum)
+    omega (arith, sum_by-le (λ x. x) most_counted xs each, is.sum, is.count)
+
+-- where one more number can be counted, one more with as many digits can
+pub of_digits_fits :
+    (xs : List ℕ) (n : ℕ) (s : Summary) → IsSummaryOf xs s → s.count + 1 < 18446744073709551616 →
+    get_or s.by_digits (binary_digits n) 0 + 1 < 18446744073709551616
+of_digits_fits xs n s is room =
+    let least : binary_digits n ≤ 64 = omega arith in
+    omega (
+      arith,
+      count_by-le-length (λ x. binary_digits x == binary_digits n) xs,
+      is.by_digits (binary_digits n) least,
+      is.count,
+    )

@@ -39,21 +39,16 @@ impl Summary {
             ((xs : List ℕ) → IsSummaryOf xs self.old → most_counted ≤ length xs) }
         ensures same { OnErr result (self.new ≡ self.old) }
     {
-        let digits = 64 - number.leading_zeros() as usize;
         let Some(count) = self.count.checked_add(1) else {
-            return Err(Full);
-        };
-        let Some(sum) = self.sum.checked_add(u128::from(number)) else {
-            return Err(Full);
-        };
-        let Some(of_digits) = self.by_digits[digits].checked_add(1) else {
             return Err(Full);
         };
         self.least = lesser(self.count, self.least, number);
         self.greatest = greater(self.count, self.greatest, number);
         self.count = count;
-        self.sum = sum;
-        self.by_digits[digits] = of_digits;
+        // (so many numbers of 64 bits have a sum of 128)
+        self.sum = self.sum.wrapping_add(u128::from(number));
+        let digits = 64 - number.leading_zeros() as usize;
+        self.by_digits[digits] = self.by_digits[digits].wrapping_add(1);
         Ok(())
     }
 
