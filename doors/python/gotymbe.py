@@ -379,8 +379,9 @@ def read_batch(trace, state=b"", most=1000, place=0):
     """What comes next in a trace, with at most so many events: of the whole trace with no state, and then of what is
     left of it, from a place on, with the state that was handed out."""
     begin = ctypes.cast(trace, ctypes.c_void_p).value + place
+    guess = 1024 + 2 * len(state) + 64 * min(most, 1000)
     code, report, room = _called(lambda room, size, report: _library.trace_read(
-        state, len(state), begin, len(trace) - place, most, room, size, report), 2 * len(state) + 64 * min(most, 1000))
+        state, len(state), begin, len(trace) - place, most, room, size, report), guess)
     if code not in (DONE, *STOPS):
         raise TraceError(code, 0, report.place, report.detail)
     return ReadBatch(report, room, TraceError(code, report.read, report.place, report.detail) if code else None)

@@ -118,7 +118,7 @@ pub fn read_batch(state: &[u8], trace: &[u8], most: u64) -> Result<ReadBatch, Er
             report,
         )
     };
-    let guess = 2 * state.len() + 64 * usize::try_from(most).unwrap_or(1_000).min(1_000);
+    let guess = 1_024 + 2 * state.len() + 64 * usize::try_from(most).unwrap_or(1_000).min(1_000);
     let (code, mut batch, report) = in_room(guess, call);
     let stop = match code {
         DONE => None,
