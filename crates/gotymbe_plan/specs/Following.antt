@@ -1,5 +1,6 @@
 -- What becomes of a file that is read while it grows.
-use Rattle.std.specs.Prelude.{◌≡◌, ◌≢◌, ◌⊎◌, ℕ, ◌/◌, ◌<◌, ◌≤◌, Option, Some, None}
+use Rattle.std.specs.Prelude.{◌≡◌, ◌≢◌, ◌⊎◌, ℕ, ◌/◌, ◌<◌, ◌≤◌, Option, Some, None, List, [], ◌++◌, codes}
+use Rattle.gotymbe_plan.specs.Endings.{start_text}
 use Rattle.gotymbe_plan.specs.declared.following.Seen.{Seen}
 use Rattle.gotymbe_plan.specs.declared.following.Change.{Change}
 use Rattle.gotymbe_plan.specs.declared.following.Change.TheVariants.{Nothing, Grew, Shrank, Replaced, Gone}
@@ -16,6 +17,18 @@ HasCome known read (Some now) Shrank = IsSameFile now known × (now.length < rea
 HasCome known read (Some now) Grew = IsSameFile now known × (read < now.length)
 HasCome known read (Some now) Nothing = IsSameFile now known × (now.length ≡ read)
 HasCome known read now change = ⊥
+
+-- a file is read anew where it shrank, and where another one stands under its name
+abbrev pub IsAnew : Change → Type 0
+IsAnew Shrank = Unit {0}
+IsAnew Replaced = Unit {0}
+IsAnew change = ⊥
+
+-- the line that tells so, of the program and the file; else none
+abbrev pub anew_line : List ℕ → Change → List ℕ
+anew_line name Shrank = start_text name ++ codes "shrank, and is read anew\n"
+anew_line name Replaced = start_text name ++ codes "was replaced, and is read anew\n"
+anew_line name change = []
 
 -- so many seconds are over, where any are said
 abbrev pub HasRested : ℕ → Option ℕ → Type 0

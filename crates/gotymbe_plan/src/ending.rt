@@ -209,8 +209,8 @@ fn push_line(out: &mut String, name: &str, ending: Ending) -> Result<(), AllocEr
     out.push('\n')
 }
 
-// Appends the program and the file.
-fn push_start(out: &mut String, name: &str) -> Result<(), AllocError>
+/// Appends the program and the file.
+pub(crate) fn push_start(out: &mut String, name: &str) -> Result<(), AllocError>
     ensures { AppendsText (start_text name.now) out.old out.new result }
 {
     out.push_str("gotymbe: ")?;

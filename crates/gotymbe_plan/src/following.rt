@@ -1,7 +1,12 @@
-//! When a file that grows is read again.
+//! When a file that grows is read again, and when it is read anew.
 
-ghost use Rattle.std.specs.Prelude.{◌≡◌, ◌↔◌, IsTrue};
-ghost use Rattle.gotymbe_plan.specs.Following.{HasCome, HasRested};
+ghost use Rattle.std.specs.Prelude.{◌≡◌, ◌↔◌, ◌++◌, IsTrue};
+ghost use Rattle.trace_lines.specs.Appending.{AppendsText};
+ghost use Rattle.gotymbe_plan.specs.Following.{HasCome, HasRested, IsAnew, anew_line};
+ghost use Rattle.gotymbe_plan.specs.Endings.{start_text};
+
+use crate::ending::push_start;
+use std::alloc::AllocError;
 
 /// What is known of a file.
 #[derive(Clone, Copy, Debug, PartialEq, Eq)]
@@ -41,6 +46,41 @@ pub fn what_became(known: Seen, read: u64, now: Option<Seen>) -> Change
         Some(now) if now.length > read => Change::Grew,
         Some(_) => Change::Nothing,
     }
+}
+
+/// Whether a file is read anew after this: where it shrank, or another one stands under its name.
+pub fn is_anew(change: Change) -> bool
+    ensures { IsTrue result ↔ IsAnew change }
+{
+    match change {
+        Change::Shrank => true,
+        Change::Replaced => true,
+        Change::Nothing => false,
+        Change::Grew => false,
+        Change::Gone => false,
+    }
+}
+
+/// Appends the line that tells why a file is read anew, and nothing where it is not. `AllocError` where a growth was
+/// refused.
+pub fn push_anew(out: &mut String, name: &str, change: Change) -> Result<(), AllocError>
+    ensures { AppendsText (anew_line name.now change) out.old out.new result }
+{
+    match change {
+        Change::Shrank => push_after_start(out, name, "shrank, and is read anew\n"),
+        Change::Replaced => push_after_start(out, name, "was replaced, and is read anew\n"),
+        Change::Nothing => Ok(()),
+        Change::Grew => Ok(()),
+        Change::Gone => Ok(()),
+    }
+}
+
+// Appends the program, the file, and what is told of it.
+fn push_after_start(out: &mut String, name: &str, told: &str) -> Result<(), AllocError>
+    ensures { AppendsText (start_text name.now ++ told.now) out.old out.new result }
+{
+    push_start(out, name)?;
+    out.push_str(told)
 }
 
 /// Whether a file rested for so many milliseconds as are waited for, in seconds. Without end where none are said.
