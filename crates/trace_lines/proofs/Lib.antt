@@ -15,3 +15,6 @@ mod PieceLines
 mod PulledLines
 mod PiecesGathered
 mod PiecesSent
+mod ShownForms
+mod NamedValues
+mod FrameLines

@@ -3,3 +3,5 @@ pub mod Lines
 pub mod PieceDumps
 pub mod Program
 pub mod Sent
+pub mod InFull
+pub mod EventLines

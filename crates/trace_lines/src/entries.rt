@@ -1,12 +1,13 @@
 //! Entries of pools, and annotations, as they stand in a line. Each function answers `AllocError` where a growth was
 //! refused.
 
-ghost use Rattle.std.specs.Prelude.{codes};
+ghost use Rattle.std.specs.Prelude.{◌++◌, codes};
+ghost use Rattle.std.specs.Fmt.{decimal};
 ghost use Rattle.trace_wire.specs.PoolEntries.{string_entry_of, stack_entry_of};
 ghost use Rattle.trace_lines.specs.Appending.{AppendsText};
 ghost use Rattle.trace_lines.specs.Lines.{string_entry_text, stack_entry_text, annotation_text};
 
-use crate::text::{push_addresses, push_quoted};
+use crate::text::{push_addresses, push_decimal, push_quoted};
 use crate::text_maps::push_text_pair;
 use std::alloc::AllocError;
 use trace_wire::codec::{PoolEntry, StackPoolEntry};
@@ -19,7 +20,7 @@ pub fn push_string_entry(out: &mut String, entry: &PoolEntry) -> Result<(), Allo
     ensures { AppendsText (string_entry_text (string_entry_of entry.now)) out.old out.new result }
 {
     let id = entry.pool_id;
-    write!(out, " {id}:")?;
+    push_number_before(out, u64::from(id))?;
     push_quoted(out, &entry.bytes)
 }
 
@@ -29,7 +30,7 @@ pub fn push_stack_entry(out: &mut String, entry: &StackPoolEntry) -> Result<(), 
     ensures { AppendsText (stack_entry_text (stack_entry_of entry.now)) out.old out.new result }
 {
     let id = entry.pool_id;
-    write!(out, " {id}:")?;
+    push_number_before(out, u64::from(id))?;
     push_addresses(out, &entry.frames)
 }
 
@@ -40,10 +41,19 @@ pub fn push_annotation(out: &mut String, annotation: &FieldAnnotation) -> Result
     ensures { AppendsText (annotation_text annotation.now) out.old out.new result }
 {
     let index = annotation.field_index();
-    write!(out, " {index}:")?;
+    push_number_before(out, u64::from(index))?;
     push_text_pair(
         out,
         annotation.key().as_bytes(),
         annotation.value().as_bytes(),
     )
+}
+
+// Appends a number between a space and a colon.
+fn push_number_before(out: &mut String, number: u64) -> Result<(), AllocError>
+    ensures { AppendsText (codes " " ++ decimal number ++ codes ":") out.old out.new result }
+{
+    out.push(' ')?;
+    push_decimal(out, number)?;
+    out.push(':')
 }

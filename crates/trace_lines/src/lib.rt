@@ -7,6 +7,7 @@ mod entries;
 pub mod lines;
 pub mod pieces;
 mod plain;
+mod pooled;
 pub mod program;
 pub mod resolved;
 pub mod text;

@@ -6,7 +6,7 @@ ghost use Rattle.trace_values.specs.Values.{pooled_stack};
 ghost use Rattle.trace_lines.specs.Appending.{AppendsText};
 ghost use Rattle.trace_lines.specs.Lines.{value_text};
 
-use crate::text::{push_addresses, push_quoted, push_sixteen_digits};
+use crate::text::{push_addresses, push_decimal, push_quoted, push_sixteen_digits};
 use std::alloc::AllocError;
 use trace_values::types::{InternedStackFrames, InternedString};
 
@@ -36,7 +36,8 @@ pub fn push_truth(out: &mut String, flag: bool) -> Result<(), AllocError>
 pub fn push_number(out: &mut String, held: u64) -> Result<(), AllocError>
     ensures { AppendsText (value_text (number held)) out.old out.new result }
 {
-    write!(out, "Varint:{held}")
+    out.push_str("Varint:")?;
+    push_decimal(out, held)
 }
 
 /// Appends a text.

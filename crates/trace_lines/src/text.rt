@@ -3,6 +3,7 @@
 
 ghost use Rattle.std.specs.Prelude.{codes};
 ghost use Rattle.std.specs.List.{join_by};
+ghost use Rattle.std.specs.Fmt.{decimal};
 ghost use Rattle.trace_values.specs.AddressTexts.{address_text};
 ghost use Rattle.trace_lines.specs.Appending.{AppendsText};
 ghost use Rattle.trace_lines.specs.Lines.{escaped_byte, quoted_byte, quoted, address_list, sixteen_digits};
@@ -45,6 +46,14 @@ pub(crate) fn push_comma_before(out: &mut String, index: usize) -> Result<(), Al
     ensures { AppendsText (comma_before index) out.old out.new result }
 {
     if index == 0 { Ok(()) } else { out.push(',') }
+}
+
+/// Appends the decimal digits of a number. `AllocError` where a growth was refused.
+pub(crate) fn push_decimal(out: &mut String, number: u64) -> Result<(), AllocError>
+    ensures { AppendsText (decimal number) out.old out.new result }
+{
+    let mut digits = itoa::Buffer::new();
+    out.push_str(digits.format(number))
 }
 
 // Appends addresses, with commas between them.

@@ -1,14 +1,18 @@
 //! Maps of texts as they stand in a line, whoever holds the pairs. Each function answers `AllocError` where a growth
 //! was refused.
 
-ghost use Rattle.std.specs.Prelude.{◌≡◌, ℕ, List, codes, map as list_map, string_bytes};
+ghost use Rattle.std.specs.Prelude.{◌≡◌, ℕ, List, IfOk, codes, map as list_map};
 ghost use Rattle.std.specs.List.{join_by};
+ghost use Rattle.trace_values.specs.Raw.{texts_front};
+ghost use Rattle.trace_values.specs.ValueViews.{text_pairs_view};
 ghost use Rattle.trace_values.specs.Values.{texts};
 ghost use Rattle.trace_lines.specs.Appending.{AppendsText};
 ghost use Rattle.trace_lines.specs.Lines.{pair_text, value_text};
 
 use crate::text::{push_comma_before, push_quoted};
-use std::alloc::AllocError;
+use std::alloc::{AllocError, Global};
+use trace_values::tri;
+use trace_values::types::parts::utf8_of;
 
 /// A key and a value of a map of texts, which need not be text.
 pub(crate) trait TextPair {
@@ -28,20 +32,42 @@ impl TextPair for (Vec<u8>, Vec<u8>) {
     }
 }
 
-impl TextPair for (String, String) {
-    ghost texts = { λ p. (string_bytes p.0, string_bytes p.1) };
-
-    fn texts(&self) -> (&[u8], &[u8]) {
-        (self.0.as_bytes(), self.1.as_bytes())
-    }
-}
-
 impl<'a> TextPair for (&'a [u8], &'a [u8]) {
     ghost texts = { λ p. (p.0.now, p.1.now) };
 
     fn texts(&self) -> (&[u8], &[u8]) {
         *self
     }
+}
+
+impl<'a> TextPair for (&'a str, &'a str) {
+    ghost texts = { λ p. (p.0.now, p.1.now) };
+
+    fn texts(&self) -> (&[u8], &[u8]) {
+        (self.0.as_bytes(), self.1.as_bytes())
+    }
+}
+
+/// The pairs up to the first that is no pair of texts. `AllocError` where a growth was refused.
+pub(crate) fn text_pairs(
+    alloc: Global,
+    pairs: &[(Vec<u8>, Vec<u8>)],
+) -> Result<Vec<(&str, &str)>, AllocError>
+    ensures { IfOk result (λ v. list_map (λ p. (p.0.now, p.1.now)) v.items
+        ≡ texts_front (text_pairs_view pairs.now)) }
+{
+    let mut texts = Vec::new(alloc);
+    for pair in pairs {
+        let Ok(key) = utf8_of(pair.0.as_slice()) else {
+            return Ok(texts);
+        };
+        let Ok(value) = utf8_of(pair.1.as_slice()) else {
+            return Ok(texts);
+        };
+        tri!(texts.reserve(1));
+        texts.push_reserved((key, value));
+    }
+    Ok(texts)
 }
 
 /// Appends a map of texts.

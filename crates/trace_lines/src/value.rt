@@ -3,24 +3,40 @@
 
 ghost use Rattle.std.specs.Prelude.{◌++◌, ℕ, codes, map as list_map};
 ghost use Rattle.std.specs.List.{join_by};
+ghost use Rattle.trace_values.specs.Raw.{texts_front};
 ghost use Rattle.trace_values.specs.parts.types.Flat.{flat_form};
 ghost use Rattle.trace_values.specs.Reading.{values_to_items, values_to_pairs};
-ghost use Rattle.trace_values.specs.Values.{Value, list, map};
-ghost use Rattle.trace_values.specs.ValueViews.{view};
+ghost use Rattle.trace_values.specs.Values.{Value, texts, list, map};
+ghost use Rattle.trace_values.specs.ValueViews.{view, text_pairs_view};
 ghost use Rattle.trace_values.specs.declared.types.field_value.FieldValue.{size-FieldValue};
 ghost use Rattle.trace_lines.specs.Appending.{AppendsText};
+ghost use Rattle.dial9_trace_format.specs.parts.Resolving.{as_pools};
+ghost use Rattle.dial9_trace_format.specs.Resolving.{in_full, unknown_ids, unknown_item_ids, unknown_pair_ids};
 ghost use Rattle.trace_lines.specs.parts.Holding.{HoldsInside};
+ghost use Rattle.trace_lines.specs.parts.InFull.{shown_in, IsKnown};
 ghost use Rattle.trace_lines.specs.Lines.{value_text};
 
 use crate::plain::{
     push_bytes, push_float, push_integer, push_number, push_pooled_stack, push_pooled_text,
     push_stack, push_text, push_truth,
 };
+use crate::pooled::{push_known_stack, push_known_text, stack_known, text_known};
 use crate::text::push_comma_before;
-use crate::text_maps::push_texts;
+use crate::text_maps::{push_texts, text_pairs};
+use dial9_trace_format::resolve::DeserError;
 use std::alloc::AllocError;
 use trace_values::tri;
 use trace_values::types::FieldValue;
+use trace_wire::pools::{StackPool, StringPool};
+
+/// How values are shown.
+#[derive(Clone, Copy, Drop)]
+pub(crate) enum Shown<'p> {
+    /// As they are.
+    Plain,
+    /// With texts and stacks in place of the ids of these pools; an id that they do not know as it is.
+    InFull(&'p StringPool, &'p StackPool),
+}
 
 /// The values that a value holds.
 pub(crate) enum Held<'a, V> {
@@ -47,6 +63,22 @@ pub(crate) trait LineValue: Sized {
     /// Appends a value that holds no others, and `None` for one that does.
     fn push_flat(&self, out: &mut String) -> Result<(), AllocError>
         ensures { AppendsText (value_text (flat_form (value self.now))) out.old out.new result };
+
+    /// The same with a text or a stack in place of an id that the pools know; of a map of texts the pairs up to the
+    /// first that is no pair of texts.
+    fn push_flat_in_full(
+        &self,
+        out: &mut String,
+        strings: &StringPool,
+        stacks: &StackPool,
+    ) -> Result<(), AllocError>
+        ensures { AppendsText (value_text (in_full (as_pools strings.now stacks.now)
+            (flat_form (value self.now)))) out.old out.new result };
+
+    /// Whether the pools know the id that a value is, if it is one. Of a value that holds others nothing is asked.
+    fn flat_known(&self, strings: &StringPool, stacks: &StackPool) -> Result<(), DeserError>
+        ensures { IsKnown (unknown_ids (as_pools strings.now stacks.now)
+            (flat_form (value self.now))) result };
 }
 
 impl LineValue for FieldValue {
@@ -62,6 +94,7 @@ impl LineValue for FieldValue {
         }
     }
 
+    #[inline(always)]
     fn push_flat(&self, out: &mut String) -> Result<(), AllocError> {
         match self {
             FieldValue::I64(number) => push_integer(out, *number),
@@ -77,6 +110,37 @@ impl LineValue for FieldValue {
             _ => out.push_str("None"),
         }
     }
+
+    fn push_flat_in_full(
+        &self,
+        out: &mut String,
+        strings: &StringPool,
+        stacks: &StackPool,
+    ) -> Result<(), AllocError> {
+        match self {
+            FieldValue::PooledString(id) => push_known_text(out, strings, *id),
+            FieldValue::PooledStackFrames(id) => push_known_stack(out, stacks, *id),
+            FieldValue::StringMap(pairs) => push_text_front(out, pairs),
+            _ => self.push_flat(out),
+        }
+    }
+
+    fn flat_known(&self, strings: &StringPool, stacks: &StackPool) -> Result<(), DeserError> {
+        match self {
+            FieldValue::PooledString(id) => text_known(strings, *id),
+            FieldValue::PooledStackFrames(id) => stack_known(stacks, *id),
+            _ => Ok(()),
+        }
+    }
+}
+
+// Appends the pairs up to the first that is no pair of texts.
+fn push_text_front(out: &mut String, pairs: &[(Vec<u8>, Vec<u8>)]) -> Result<(), AllocError>
+    ensures { AppendsText (value_text (texts (texts_front (text_pairs_view pairs.now)))) out.old
+        out.new result }
+{
+    let pairs = text_pairs(*out.allocator(), pairs)?;
+    push_texts(out, &pairs)
 }
 
 /// Appends a value: the name of its kind, and what it holds (docs/FORMAT.md, "Dumps"). `AllocError` where a growth
@@ -84,66 +148,150 @@ impl LineValue for FieldValue {
 pub fn push_value(out: &mut String, value: &FieldValue) -> Result<(), AllocError>
     ensures { AppendsText (value_text (view value.now)) out.old out.new result }
 {
-    push_line_value(out, value)
+    push_line_value(out, value, &Shown::Plain)
 }
 
-/// The same of any value that stands in a line.
+/// The same of any value that stands in a line, as it is or in full.
 #[cycle(value)]
-pub(crate) fn push_line_value<V: LineValue>(out: &mut String, value: &V) -> Result<(), AllocError>
-    ensures { AppendsText (value_text (V.value value.now)) out.old out.new result }
+pub(crate) fn push_line_value<V: LineValue>(
+    out: &mut String,
+    value: &V,
+    form: &Shown<'_>,
+) -> Result<(), AllocError>
+    ensures { AppendsText (value_text (shown_in form.now (V.value value.now))) out.old out.new
+        result }
 {
     match value.held() {
-        Held::Items(items) => push_list(out, items),
-        Held::Pairs(pairs) => push_map(out, pairs),
-        Held::Nothing => value.push_flat(out),
+        Held::Items(items) => push_list(out, items, form),
+        Held::Pairs(pairs) => push_map(out, pairs, form),
+        Held::Nothing => push_flat_value(out, value, form),
+    }
+}
+
+// Appends a value that holds no others.
+fn push_flat_value<V: LineValue>(
+    out: &mut String,
+    value: &V,
+    form: &Shown<'_>,
+) -> Result<(), AllocError>
+    ensures { AppendsText (value_text (shown_in form.now (flat_form (V.value value.now)))) out.old
+        out.new result }
+{
+    match form {
+        Shown::Plain => value.push_flat(out),
+        Shown::InFull(strings, stacks) => value.push_flat_in_full(out, strings, stacks),
     }
 }
 
 #[cycle(value)]
-fn push_list<V: LineValue>(out: &mut String, items: &[V]) -> Result<(), AllocError>
-    ensures { AppendsText (value_text (list (values_to_items (list_map V.value items.now)))) out.old
-        out.new result }
+fn push_list<V: LineValue>(
+    out: &mut String,
+    items: &[V],
+    form: &Shown<'_>,
+) -> Result<(), AllocError>
+    ensures { AppendsText (value_text (shown_in form.now
+        (list (values_to_items (list_map V.value items.now))))) out.old out.new result }
 {
     out.push_str("List:[")?;
-    push_items(out, items)?;
+    push_items(out, items, form)?;
     out.push(']')
 }
 
 #[cycle(value)]
-fn push_map<V: LineValue>(out: &mut String, pairs: &[(V, V)]) -> Result<(), AllocError>
-    ensures { AppendsText
-        (value_text (map (values_to_pairs (list_map (λ p. (V.value p.0, V.value p.1)) pairs.now))))
-        out.old out.new result }
+fn push_map<V: LineValue>(
+    out: &mut String,
+    pairs: &[(V, V)],
+    form: &Shown<'_>,
+) -> Result<(), AllocError>
+    ensures { AppendsText (value_text (shown_in form.now
+        (map (values_to_pairs (list_map (λ p. (V.value p.0, V.value p.1)) pairs.now))))) out.old
+        out.new result }
 {
     out.push_str("Map:{")?;
-    push_pairs(out, pairs)?;
+    push_pairs(out, pairs, form)?;
     out.push('}')
 }
 
 #[cycle(value)]
-fn push_items<V: LineValue>(out: &mut String, items: &[V]) -> Result<(), AllocError>
-    ensures { AppendsText (join_by (λ v. value_text (V.value v)) (codes ",") items.now) out.old
+fn push_items<V: LineValue>(
+    out: &mut String,
+    items: &[V],
+    form: &Shown<'_>,
+) -> Result<(), AllocError>
+    ensures { AppendsText
+        (join_by (λ v. value_text (shown_in form.now (V.value v))) (codes ",") items.now) out.old
         out.new result }
 {
     'items: for (index, item) in items.iter().enumerate() {
         push_comma_before(out, index)?;
-        push_line_value(out, item)?;
+        push_line_value(out, item, form)?;
     }
     Ok(())
 }
 
 #[cycle(value)]
-fn push_pairs<V: LineValue>(out: &mut String, pairs: &[(V, V)]) -> Result<(), AllocError>
+fn push_pairs<V: LineValue>(
+    out: &mut String,
+    pairs: &[(V, V)],
+    form: &Shown<'_>,
+) -> Result<(), AllocError>
     ensures { AppendsText
-        (join_by (λ p. value_text (V.value p.0) ++ codes "=" ++ value_text (V.value p.1))
-        (codes ",") pairs.now)
-        out.old out.new result }
+        (join_by (λ p. value_text (shown_in form.now (V.value p.0)) ++ codes "="
+        ++ value_text (shown_in form.now (V.value p.1))) (codes ",") pairs.now) out.old out.new
+        result }
 {
     'pairs: for (index, pair) in pairs.iter().enumerate() {
         tri!(push_comma_before(out, index));
-        tri!(push_line_value(out, &pair.0));
+        tri!(push_line_value(out, &pair.0, form));
         tri!(out.push('='));
-        tri!(push_line_value(out, &pair.1));
+        tri!(push_line_value(out, &pair.1, form));
+    }
+    Ok(())
+}
+
+/// Whether the pools know all ids in a value, or the first that they do not know.
+#[cycle(knowing)]
+pub(crate) fn ids_known<V: LineValue>(
+    strings: &StringPool,
+    stacks: &StackPool,
+    value: &V,
+) -> Result<(), DeserError>
+    ensures { IsKnown (unknown_ids (as_pools strings.now stacks.now) (V.value value.now)) result }
+{
+    match value.held() {
+        Held::Items(items) => item_ids_known(strings, stacks, items),
+        Held::Pairs(pairs) => pair_ids_known(strings, stacks, pairs),
+        Held::Nothing => value.flat_known(strings, stacks),
+    }
+}
+
+#[cycle(knowing)]
+fn item_ids_known<V: LineValue>(
+    strings: &StringPool,
+    stacks: &StackPool,
+    items: &[V],
+) -> Result<(), DeserError>
+    ensures { IsKnown (unknown_item_ids (as_pools strings.now stacks.now)
+        (values_to_items (list_map V.value items.now))) result }
+{
+    for item in items {
+        tri!(ids_known(strings, stacks, item));
+    }
+    Ok(())
+}
+
+#[cycle(knowing)]
+fn pair_ids_known<V: LineValue>(
+    strings: &StringPool,
+    stacks: &StackPool,
+    pairs: &[(V, V)],
+) -> Result<(), DeserError>
+    ensures { IsKnown (unknown_pair_ids (as_pools strings.now stacks.now)
+        (values_to_pairs (list_map (λ p. (V.value p.0, V.value p.1)) pairs.now))) result }
+{
+    for pair in pairs {
+        tri!(ids_known(strings, stacks, &pair.0));
+        tri!(ids_known(strings, stacks, &pair.1));
     }
     Ok(())
 }

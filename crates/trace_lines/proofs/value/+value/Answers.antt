@@ -4,32 +4,32 @@ use Rattle.trace_lines.specs.Lines.{value_text}
 use Rattle.trace_lines.proofs.AppendedParts.{both_put, put_last, keyed}
 use Rattle.trace_lines.proofs.Depths.{item_in, key_in, value_in, most_below, most_pair_below}
 use Rattle.trace_lines.proofs.JoinedLists.{joined_more}
-use Rattle.trace_lines.proofs.ValueTexts.{text_of_list, text_of_map}
+use Rattle.trace_lines.proofs.ShownForms.{shown_as, text_of_shown_list, text_of_shown_map}
 use Rattle.trace_lines.proofs.value.+value.Goals as goal
 
 pub push_list-returns : goal.push_list-returns
 push_list-returns g t c =
-    put_last c.push.result _ _ _ _ _ _ (text_of_list g.V.LineValue.value c.args.items.now)
+    put_last c.push.result _ _ _ _ _ _ (text_of_shown_list c.args.form.now g.V.LineValue.value c.args.items.now)
     (both_put (string_bytes c.args.out.now) _ _ _ _ c.in_ok-push_str.ensures.bytes c.in_ok-push_items.ensures)
     c.push.ensures.bytes
 
 pub push_map-returns : goal.push_map-returns
 push_map-returns g t c =
     put_last c.push.result _ _ _ _ _ _
-    (text_of_map (λ p. (g.V.LineValue.value p.0, g.V.LineValue.value p.1)) c.args.pairs.now)
+    (text_of_shown_map c.args.form.now g.V.LineValue.value c.args.pairs.now)
     (both_put (string_bytes c.args.out.now) _ _ _ _ c.in_ok-push_str.ensures.bytes c.in_ok-push_pairs.ensures)
     c.push.ensures.bytes
 
 pub push_items-items-preserved : goal.push_items-items-preserved
 push_items-items-preserved g t c =
-    joined_more (λ v. value_text (g.V.LineValue.value v)) (string_bytes c.args.out.now) c.args.items.now c.items.index
-    c.index-items-index.result c.items-test.true c.index-items-index.is c.items.invariant
+    joined_more (λ v. value_text (shown_as c.args.form.now g.V.LineValue.value v)) (string_bytes c.args.out.now)
+    c.args.items.now c.items.index c.index-items-index.result c.items-test.true c.index-items-index.is c.items.invariant
     c.in_ok-push_comma_before.ensures
     c.in_ok-push_line_value.ensures
 
 pub push_pairs-pairs-preserved : goal.push_pairs-pairs-preserved
 push_pairs-pairs-preserved g t c =
-    let value = g.V.LineValue.value in
+    let value = shown_as c.args.form.now g.V.LineValue.value in
     let put = keyed _ _ _ _ (value_text (value c.index-pairs-index.result.0))
     (value_text (value c.index-pairs-index.result.1)) c.in-Ok-tri-2.ensures c.in-Ok-tri-3.ensures.bytes
     c.in-Ok-tri-4.ensures in

@@ -2,6 +2,7 @@ use Rattle.std.proofs.Common.{◌≡◌, ◌+◌, ◌*◌, ◌++◌, take, strin
 use Rattle.std.specs.List.{join_by}
 use denote.Param.Weighed.{most}
 use Rattle.trace_lines.specs.Lines.{value_text}
+use Rattle.trace_lines.proofs.ShownForms.{shown_as}
 use Rattle.trace_lines.proofs.Depths.{pair_depth}
 use Rattle.trace_lines.proofs.value.+value.Given as goal
 
@@ -23,11 +24,11 @@ decreases-push_pairs g l = 3 * most (pair_depth g.V.LineValue.depth) l.pairs.now
 abbrev pub invariant-push_items-items : goal.invariant-push_items-items
 invariant-push_items-items g l =
     string_bytes l.out
-    ≡ string_bytes l.initial.out ++ join_by (λ v. value_text (g.V.LineValue.value v)) (codes ",")
+    ≡ string_bytes l.initial.out ++ join_by (λ v. value_text (shown_as l.form g.V.LineValue.value v)) (codes ",")
     (take l.index l.items)
 
 abbrev pub invariant-push_pairs-pairs : goal.invariant-push_pairs-pairs
 invariant-push_pairs-pairs g l =
-    let value = g.V.LineValue.value in
+    let value = shown_as l.form g.V.LineValue.value in
     string_bytes l.out ≡ string_bytes l.initial.out
     ++ join_by (λ p. value_text (value p.0) ++ codes "=" ++ value_text (value p.1)) (codes ",") (take l.index l.pairs)
