@@ -9,7 +9,8 @@ use Rattle.trace_values.specs.Sending.{Account}
 use Rattle.trace_values.specs.declared.types.field_type.FieldType.{FieldType}
 use Rattle.trace_values.specs.declared.types.field_value.FieldValue.{FieldValue}
 use Rattle.trace_values.specs.ValueViews.{view, views}
-use Rattle.trace_values.specs.Values.{Value, pooled_text, pooled_stack, list, map as pairs_map}
+use Rattle.trace_values.specs.Values.{Value, pooled_text, pooled_stack, list, map as pairs_map, Items, no_items, item}
+use Rattle.trace_values.specs.Values.{Pairs, no_pairs, pair}
 use Rattle.trace_wire.specs.Schemas.{Field}
 use Rattle.trace_wire.specs.Runs.{Pools}
 use Rattle.trace_writer.specs.State.{EncoderView}
@@ -18,11 +19,12 @@ use Rattle.trace_writer.specs.Outcomes.{Outcome, replied_done}
 use Rattle.dial9_trace_format.specs.ShownEvents.{ShownEvent}
 use Rattle.trace_converter.specs.declared.rules.Rule.{Rule}
 use Rattle.trace_converter.specs.declared.converter.ConvertError.{ConvertError}
-use Rattle.trace_converter.specs.declared.converter.ConvertError.TheVariants.{NoField, UnknownId, Nested, Refused}
+use Rattle.trace_converter.specs.declared.converter.ConvertError.TheVariants.{NoField, UnknownId, Refused}
 use Rattle.trace_converter.specs.Rules.{field_named, renamed, old_values}
 use Rattle.trace_converter.specs.Conversions.{ConvertsValue, ConvertsValues, ConvertsFirst, ConvertsEvent}
 use Rattle.trace_converter.specs.parts.Kept.{Names, HasConverted}
-use Rattle.trace_converter.specs.Conversions.{RefusesValue, LacksField, RefusesNext, RefusesEvent}
+use Rattle.trace_converter.specs.Conversions.{RefusesValue, RefusesItem, RefusesPair, LacksField, RefusesNext}
+use Rattle.trace_converter.specs.Conversions.{RefusesEvent}
 
 -- a field of this type under the new name
 abbrev pub under : Names → FieldType → Field
@@ -140,22 +142,42 @@ no_room {W} {R} {told} {e} {old} {new} {fields} {values} rule i (Err x) is h =
     subst (λ y. RefusesEvent told rule e old y new) (sym is)
     (inr (inr (refl, (drop i rule.fields.now, first_of_rule rule i h))))
 
--- a value does not lack a field
-no_field_of_value :
-    {W : Type 0} (told : W → Account) (p : Pools) (v : Value) (old new : EncoderView W)
-    → RefusesValue told p v old NoField new → ⊥
-no_field_of_value told p (pooled_text id) old new h = h
-no_field_of_value told p (pooled_stack id) old new h = h
-no_field_of_value told p (list items) old new h = h
-no_field_of_value told p (pairs_map pairs) old new h = h
-no_field_of_value told p v old new h = h
+-- a value does not lack a field, nor does an item or a pair
+mutual
+  no_field_of_value :
+      {W : Type 0} (told : W → Account) (p : Pools) (v : Value) (old new : EncoderView W)
+      → RefusesValue told p v old NoField new → ⊥
+  no_field_of_value told p (pooled_text id) old new h = h
+  no_field_of_value told p (pooled_stack id) old new h = h
+  no_field_of_value told p (list items) old new h = no_field_of_item told p items old new h
+  no_field_of_value told p (pairs_map pairs) old new h = no_field_of_pair told p pairs old new h
+  no_field_of_value told p v old new h = h
+
+  no_field_of_item :
+      {W : Type 0} (told : W → Account) (p : Pools) (items : Items) (old new : EncoderView W)
+      → RefusesItem told p items old NoField new → ⊥
+  no_field_of_item told p no_items old new h = h
+  no_field_of_item told p (item v items) old new (inl (want, same)) = want
+  no_field_of_item told p (item v items) old new (inr (inl h)) = no_field_of_value told p v old new h
+  no_field_of_item told p (item v items) old new (inr (inr (w, mid, first, h))) =
+      no_field_of_item told p items mid new h
+
+  no_field_of_pair :
+      {W : Type 0} (told : W → Account) (p : Pools) (pairs : Pairs) (old new : EncoderView W)
+      → RefusesPair told p pairs old NoField new → ⊥
+  no_field_of_pair told p no_pairs old new h = h
+  no_field_of_pair told p (pair x y pairs) old new (inl (want, same)) = want
+  no_field_of_pair told p (pair x y pairs) old new (inr (inl h)) = no_field_of_value told p x old new h
+  no_field_of_pair told p (pair x y pairs) old new (inr (inr (v, mid, key, inl h))) =
+      no_field_of_value told p y mid new h
+  no_field_of_pair told p (pair x y pairs) old new (inr (inr (v, mid, key, inr (w, last, value, h)))) =
+      no_field_of_pair told p pairs last new h
 
 -- the next value was refused
 of_value :
     {W : Type 0} {told : W → Account} {rule : Rule} {e : ShownEvent} {old new : EncoderView W} (error : ConvertError)
     → RefusesNext told rule e old error new → RefusesEvent told rule e old error new
 of_value UnknownId h = h
-of_value Nested h = h
 of_value (Refused z) h = inl h
 of_value {W} {told} {rule} {e} {old} {new} NoField (ns, os, m, y, first, is, h) =
     absurd (no_field_of_value told e.pools y.1 m new h)

@@ -1,1 +1,3 @@
 pub mod ConversionLemmas
+pub mod NestedLemmas
+pub mod RunLemmas

@@ -7,7 +7,8 @@ use Rattle.trace_values.specs.declared.leb128.error.EncodeError.TheVariants as e
 use Rattle.trace_values.specs.declared.types.ids.InternedString.{InternedString}
 use Rattle.trace_values.specs.declared.types.ids.InternedStackFrames.{InternedStackFrames}
 use Rattle.trace_values.specs.Sending.{Account}
-use Rattle.trace_values.specs.Values.{Value, pooled_text, pooled_stack, list, map as pairs_map}
+use Rattle.trace_values.specs.Values.{Value, pooled_text, pooled_stack, list, map as pairs_map, Items, no_items, item}
+use Rattle.trace_values.specs.Values.{Pairs, no_pairs, pair}
 use Rattle.trace_values.specs.Owning.{owned_form}
 use Rattle.trace_wire.specs.Schemas.{Field}
 use Rattle.trace_wire.specs.Runs.{Pools}
@@ -17,22 +18,37 @@ use Rattle.trace_writer.specs.Outcomes.{Outcome, replied_done, replied_text, rep
 use Rattle.dial9_trace_format.specs.ShownEvents.{ShownEvent}
 use Rattle.trace_converter.specs.declared.rules.Rule.{Rule}
 use Rattle.trace_converter.specs.declared.converter.ConvertError.{ConvertError}
-use Rattle.trace_converter.specs.declared.converter.ConvertError.TheVariants.{NoField, UnknownId, Nested, Refused}
+use Rattle.trace_converter.specs.declared.converter.ConvertError.TheVariants.{NoField, UnknownId, Refused}
 use Rattle.trace_converter.specs.Rules.{renamed, AreKept, new_entry, old_values}
 
--- A value becomes another one. The text or the stack of an id is interned; lists and maps become none; any other
--- value is as it was, in memory of its own.
-abbrev pub ConvertsValue : {W : Type 0} → (W → Account) → Pools → Value → EncoderView W → Value → EncoderView W
-    → Type 0
-ConvertsValue told p (pooled_text id) old v new =
-    (text : List ℕ) × (i : InternedString) × (map.get p.strings id ≡ Some text) × (v ≡ pooled_text i.0)
-    × Outcome told old (intern_string text) replied_text (Ok i) new
-ConvertsValue told p (pooled_stack id) old v new =
-    (stack : List ℕ) × (i : InternedStackFrames) × (map.get p.stacks id ≡ Some stack) × (v ≡ pooled_stack i.0)
-    × Outcome told old (intern_stack stack) replied_stack (Ok i) new
-ConvertsValue told p (list items) old v new = ⊥
-ConvertsValue told p (pairs_map pairs) old v new = ⊥
-ConvertsValue told p value old v new = (v ≡ owned_form value) × (new ≡ old)
+-- A value becomes another one. The text or the stack of an id is interned; the items of a list, and the keys and values
+-- of a map, are converted in order; any other value is as it was, in memory of its own.
+abbrev mutual
+  pub ConvertsValue : {W : Type 0} → (W → Account) → Pools → Value → EncoderView W → Value → EncoderView W → Type 0
+  ConvertsValue told p (pooled_text id) old v new =
+      (text : List ℕ) × (i : InternedString) × (map.get p.strings id ≡ Some text) × (v ≡ pooled_text i.0)
+      × Outcome told old (intern_string text) replied_text (Ok i) new
+  ConvertsValue told p (pooled_stack id) old v new =
+      (stack : List ℕ) × (i : InternedStackFrames) × (map.get p.stacks id ≡ Some stack) × (v ≡ pooled_stack i.0)
+      × Outcome told old (intern_stack stack) replied_stack (Ok i) new
+  ConvertsValue told p (list items) old v new =
+      (later : Items) × (v ≡ list later) × ConvertsItems told p items old later new
+  ConvertsValue told p (pairs_map pairs) old v new =
+      (later : Pairs) × (v ≡ pairs_map later) × ConvertsPairs told p pairs old later new
+  ConvertsValue told p value old v new = (v ≡ owned_form value) × (new ≡ old)
+
+  pub ConvertsItems : {W : Type 0} → (W → Account) → Pools → Items → EncoderView W → Items → EncoderView W → Type 0
+  ConvertsItems told p no_items old no_items new = new ≡ old
+  ConvertsItems {W} told p (item v before) old (item w later) new =
+      (mid : EncoderView W) × ConvertsValue told p v old w mid × ConvertsItems told p before mid later new
+  ConvertsItems told p before old later new = ⊥
+
+  pub ConvertsPairs : {W : Type 0} → (W → Account) → Pools → Pairs → EncoderView W → Pairs → EncoderView W → Type 0
+  ConvertsPairs told p no_pairs old no_pairs new = new ≡ old
+  ConvertsPairs {W} told p (pair x y before) old (pair v w later) new =
+      (first mid : EncoderView W) × ConvertsValue told p x old v first × ConvertsValue told p y first w mid
+      × ConvertsPairs told p before mid later new
+  ConvertsPairs told p before old later new = ⊥
 
 -- values, one after another
 abbrev pub ConvertsValues : {W : Type 0} → (W → Account) → Pools → List Value → EncoderView W → List Value
@@ -53,22 +69,48 @@ pub record ConvertsEvent {W : Type 0} (told : W → Account) (rule : Rule) (e : 
   pub converted : ConvertsValues told e.pools (old_values kept) old values mid
   pub written : Outcome told mid (write_event_at rule.slot (new_entry rule kept) e.time values) replied_done (Ok tt) new
 
--- why a value was not converted: its id stands for nothing, or it is a list or a map, or interning was refused; or a
--- growth was
-abbrev pub RefusesValue : {W : Type 0} → (W → Account) → Pools → Value → EncoderView W → ConvertError → EncoderView W
-    → Type 0
-RefusesValue told p (pooled_text id) old UnknownId new = (map.get p.strings id ≡ None) × (new ≡ old)
-RefusesValue told p (pooled_text id) old (Refused e) new =
-    (text : List ℕ) × (map.get p.strings id ≡ Some text)
-    × Outcome told old (intern_string text) replied_text (Err e) new
-RefusesValue told p (pooled_stack id) old UnknownId new = (map.get p.stacks id ≡ None) × (new ≡ old)
-RefusesValue told p (pooled_stack id) old (Refused e) new =
-    (stack : List ℕ) × (map.get p.stacks id ≡ Some stack)
-    × Outcome told old (intern_stack stack) replied_stack (Err e) new
-RefusesValue told p (list items) old Nested new = new ≡ old
-RefusesValue told p (pairs_map pairs) old Nested new = new ≡ old
-RefusesValue told p value old (Refused e) new = (e ≡ encode_errors.OutOfMemory) × (new ≡ old)
-RefusesValue told p value old error new = ⊥
+-- a growth was refused
+abbrev pub IsWant : ConvertError → Type 0
+IsWant (Refused e) = e ≡ encode_errors.OutOfMemory
+IsWant error = ⊥
+
+-- Why a value was not converted: its id stands for nothing, or interning was refused; or a growth was. Of a list that
+-- is why an item was not, once those before it were; and so of a map, each key before its value.
+abbrev mutual
+  pub RefusesValue : {W : Type 0} → (W → Account) → Pools → Value → EncoderView W → ConvertError → EncoderView W
+      → Type 0
+  RefusesValue told p (pooled_text id) old UnknownId new = (map.get p.strings id ≡ None) × (new ≡ old)
+  RefusesValue told p (pooled_text id) old (Refused e) new =
+      (text : List ℕ) × (map.get p.strings id ≡ Some text)
+      × Outcome told old (intern_string text) replied_text (Err e) new
+  RefusesValue told p (pooled_stack id) old UnknownId new = (map.get p.stacks id ≡ None) × (new ≡ old)
+  RefusesValue told p (pooled_stack id) old (Refused e) new =
+      (stack : List ℕ) × (map.get p.stacks id ≡ Some stack)
+      × Outcome told old (intern_stack stack) replied_stack (Err e) new
+  RefusesValue told p (list items) old error new = RefusesItem told p items old error new
+  RefusesValue told p (pairs_map pairs) old error new = RefusesPair told p pairs old error new
+  RefusesValue told p value old (Refused e) new = (e ≡ encode_errors.OutOfMemory) × (new ≡ old)
+  RefusesValue told p value old error new = ⊥
+
+  pub RefusesItem : {W : Type 0} → (W → Account) → Pools → Items → EncoderView W → ConvertError → EncoderView W
+      → Type 0
+  RefusesItem told p no_items old error new = ⊥
+  RefusesItem {W} told p (item v items) old error new =
+      (IsWant error × (new ≡ old))
+      ⊎ (RefusesValue told p v old error new
+      ⊎ ((w : Value) × (mid : EncoderView W) × ConvertsValue told p v old w mid
+      × RefusesItem told p items mid error new))
+
+  pub RefusesPair : {W : Type 0} → (W → Account) → Pools → Pairs → EncoderView W → ConvertError → EncoderView W
+      → Type 0
+  RefusesPair told p no_pairs old error new = ⊥
+  RefusesPair {W} told p (pair x y pairs) old error new =
+      (IsWant error × (new ≡ old))
+      ⊎ (RefusesValue told p x old error new
+      ⊎ ((v : Value) × (first : EncoderView W) × ConvertsValue told p x old v first
+      × (RefusesValue told p y first error new
+      ⊎ ((w : Value) × (mid : EncoderView W) × ConvertsValue told p y first w mid
+      × RefusesPair told p pairs mid error new))))
 
 -- the first fields that the rule keeps were converted
 pub record ConvertsFirst {W : Type 0} (told : W → Account) (rule : Rule) (e : ShownEvent)
@@ -116,7 +158,6 @@ abbrev pub RefusesEvent : {W : Type 0} → (W → Account) → Rule → ShownEve
     → EncoderView W → Type 0
 RefusesEvent told rule e old NoField new = LacksField told rule e old new
 RefusesEvent told rule e old UnknownId new = RefusesNext told rule e old UnknownId new
-RefusesEvent told rule e old Nested new = RefusesNext told rule e old Nested new
 RefusesEvent told rule e old (Refused error) new =
     RefusesNext told rule e old (Refused error) new
     ⊎ (RefusesToWrite told rule e old error new ⊎ WantsRoom told rule e old error new)

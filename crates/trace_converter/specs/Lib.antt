@@ -1,4 +1,5 @@
 pub mod Rules
 pub mod Conversions
 pub mod Steps
+pub mod Written
 pub mod parts

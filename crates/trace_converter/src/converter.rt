@@ -27,9 +27,6 @@ pub enum ConvertError {
     /// The id of a text or a stack stands for nothing.
     #[error("an id stands for nothing")]
     UnknownId,
-    /// A field holds a list or a map, whose ids are not interned anew.
-    #[error("a list or a map")]
-    Nested,
     /// The encoder refused so; or a growth was refused.
     #[error("{0}")]
     Refused(EncodeError),
@@ -83,9 +80,9 @@ impl<'r, W: TraceWrite + Drop> Converter<'r, W> {
 }
 
 /// Converts the event. `NoField` where its schema has no field of a name that the rule keeps; `UnknownId` where the id
-/// of a text or a stack stands for nothing; `Nested` where a field holds a list or a map; and `Refused` with what
-/// `Encoder::intern_string`, `Encoder::intern_stack_frames` and `Encoder::write_event_at` refuse, and `OutOfMemory`
-/// where a growth was refused. The texts and stacks of the fields before stay interned.
+/// of a text or a stack stands for nothing; and `Refused` with what `Encoder::intern_string`,
+/// `Encoder::intern_stack_frames` and `Encoder::write_event_at` refuse, and `OutOfMemory` where a growth was refused.
+/// The texts and stacks of the values before stay interned.
 impl<'a, 'r, W: TraceWrite + Drop> EventSink<'a, ConvertError> for Converter<'r, W> {
     ghost step = { Converts W.told };
 

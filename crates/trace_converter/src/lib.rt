@@ -3,6 +3,7 @@
 
 pub mod converter;
 mod fields;
+pub mod laws;
 pub mod rules;
 #[cfg(test)]
 mod tests;
