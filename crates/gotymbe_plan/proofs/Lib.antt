@@ -3,3 +3,4 @@ pub mod MergingLemmas
 pub mod NumberLemmas
 pub mod ProgressLemmas
 pub mod StatisticsLemmas
+pub mod PageLemmas

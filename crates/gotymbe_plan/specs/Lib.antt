@@ -7,3 +7,4 @@ pub mod Outputs
 pub mod Progress
 pub mod Statistics
 pub mod LastLines
+pub mod Pages

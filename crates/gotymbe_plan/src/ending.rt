@@ -185,7 +185,7 @@ pub fn push_message(out: &mut String, name: &str, ending: Ending) -> Result<(), 
 }
 
 // Whether anything is told: not where reading ended well, or where a pipe was closed.
-fn is_told(ending: Ending) -> bool
+pub(crate) fn is_told(ending: Ending) -> bool
     ensures { IsTrue result ↔ IsTold ending }
 {
     match ending {
@@ -219,7 +219,7 @@ pub(crate) fn push_start(out: &mut String, name: &str) -> Result<(), AllocError>
 }
 
 // Appends why reading ended.
-fn push_reason(out: &mut String, ending: Ending) -> Result<(), AllocError>
+pub(crate) fn push_reason(out: &mut String, ending: Ending) -> Result<(), AllocError>
     ensures { OnOk result
         (AppendsReason ending (string_bytes out.old) (string_bytes out.new)) }
 {

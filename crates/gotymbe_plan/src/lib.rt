@@ -9,5 +9,6 @@ pub mod last_line;
 pub mod merging;
 pub mod numbers;
 pub mod output;
+pub mod page;
 pub mod progress;
 pub mod statistics;

@@ -1,3 +1,4 @@
 pub mod EscapedStrings
 pub mod EscapedNumbers
 pub mod EscapedText
+pub mod SentPieces

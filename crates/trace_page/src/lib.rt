@@ -7,4 +7,5 @@ pub mod escaping;
 mod names;
 mod numbers;
 mod schemas;
+pub mod sending;
 mod values;
