@@ -1,0 +1,4 @@
+CREATE TABLE "1-Ev" (
+  "timestamp_ns" UBIGINT,
+  "v" UBIGINT
+);
