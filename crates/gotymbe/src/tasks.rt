@@ -13,6 +13,7 @@ use std::rt::{Clock, Files};
 use trace_lines::dump::WHOLE;
 use trace_values::leb128::{Plain, TraceWrite};
 
+mod folding;
 mod following;
 mod saving;
 mod showing;
@@ -108,6 +109,7 @@ fn write_to<W: TraceWrite + Drop>(
     match call.asked.task {
         Task::Join => saving::join_all(rt, call, written, &mut out),
         Task::Stats => showing::stats_of_all(rt, call, written, &mut out),
+        Task::Fold => folding::fold_all(rt, call, written, &mut out),
         _ if call.asked.merge => merge_all(rt, call, written, &mut out),
         _ => write_each(rt, call, written, &mut out),
     }

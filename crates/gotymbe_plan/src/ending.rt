@@ -30,6 +30,8 @@ pub enum Ending {
     Unwritten(ErrorKind),
     /// It ends inside the frame that begins at this place.
     Unfinished(usize),
+    /// A sum of what it holds would pass 2^64 - 1.
+    TooMuch,
     /// It was dumped up to where it stops, with this status; the last line of the dump tells the place.
     Dumped(u8),
 }
@@ -94,6 +96,7 @@ fn is_place_alone(ending: Ending) -> bool
         Ending::OutOfMemory => false,
         Ending::Unread(_) => false,
         Ending::Unwritten(_) => false,
+        Ending::TooMuch => false,
     }
 }
 
@@ -146,6 +149,7 @@ pub fn status_of(ending: Ending) -> u8
             }
         }
         Ending::Unfinished(_) => STOPPED,
+        Ending::TooMuch => FAILED,
         Ending::Dumped(status) => status,
     }
 }
@@ -195,6 +199,7 @@ pub(crate) fn is_told(ending: Ending) -> bool
         Ending::OutOfMemory => true,
         Ending::Unread(_) => true,
         Ending::Unfinished(_) => true,
+        Ending::TooMuch => true,
         Ending::Dumped(_) => true,
     }
 }
@@ -230,6 +235,7 @@ pub(crate) fn push_reason(out: &mut String, ending: Ending) -> Result<(), AllocE
         Ending::Unread(kind) => push_both(out, "cannot be read: ", error_text(kind)),
         Ending::Unwritten(kind) => push_both(out, "cannot be written: ", error_text(kind)),
         Ending::Unfinished(place) => push_unfinished(out, place),
+        Ending::TooMuch => out.push_str("adds up to more than 64 bits hold"),
         Ending::Dumped(_) => out.push_str("stops where the last line of its dump tells"),
     }
 }

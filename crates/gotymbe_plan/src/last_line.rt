@@ -23,6 +23,7 @@ pub fn push_last_line(out: &mut String, ending: Ending, position: usize) -> Resu
         Ending::OutOfMemory => Ok(()),
         Ending::Unread(_) => Ok(()),
         Ending::Unwritten(_) => Ok(()),
+        Ending::TooMuch => Ok(()),
         Ending::Dumped(_) => Ok(()),
     }
 }

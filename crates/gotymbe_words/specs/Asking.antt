@@ -10,7 +10,7 @@ use Rattle.clap.specs.declared.error.kind.ErrorKind.TheVariants.{DisplayHelp, Di
 use Rattle.gotymbe_words.specs.declared.asked.Asked.{Asked}
 use Rattle.gotymbe_words.specs.declared.asked.Task.{Task}
 use Rattle.gotymbe_words.specs.declared.asked.Task.TheVariants.{Check, Dump, Json, Csv, Salvage, Join, Stats}
-use Rattle.gotymbe_words.specs.declared.asked.Task.TheVariants.{Cut, Follow}
+use Rattle.gotymbe_words.specs.declared.asked.Task.TheVariants.{Fold, Cut, Follow}
 
 -- the name of each task
 abbrev pub task_name : Task → List ℕ
@@ -21,6 +21,7 @@ task_name Csv = codes "csv"
 task_name Salvage = codes "salvage"
 task_name Join = codes "join"
 task_name Stats = codes "stats"
+task_name Fold = codes "fold"
 task_name Cut = codes "cut"
 task_name Follow = codes "follow"
 
@@ -62,6 +63,7 @@ pub record IsAsked (task : Task) (given : ArgMatches) (asked : Asked) : Type 0 w
   pub from : IsNumberOf given (codes "from") asked.from
   pub to : IsNumberOf given (codes "to") asked.to
   pub limit : IsNumberOf given (codes "limit") asked.limit
+  pub field : option_map (λ s. s.now) asked.field ≡ first_value (found_of given) (codes "field")
   pub resolve : IsFlag given (codes "resolve") asked.resolve
   pub merge : IsFlag given (codes "merge") asked.merge
   pub resync : IsFlag given (codes "resync") asked.resync

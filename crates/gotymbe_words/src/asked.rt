@@ -24,6 +24,8 @@ pub enum Task {
     Join,
     /// Writes what the events of traces add up to.
     Stats,
+    /// Writes what the stacks of events add up to.
+    Fold,
     /// Cuts a range of times out of a trace.
     Cut,
     /// Writes the lines of a trace as it grows.
@@ -49,6 +51,8 @@ pub struct Asked<'a> {
     pub to: Option<u64>,
     /// At most so many events are shown.
     pub limit: Option<u64>,
+    /// The name of the field whose numbers are added up; `None` where events are counted.
+    pub field: Option<&'a str>,
     /// Whether ids of the pools are resolved.
     pub resolve: bool,
     /// Whether the events of all files are shown in one order, by their times.
@@ -82,6 +86,7 @@ pub fn task_of(name: &str) -> Option<Task>
         "salvage" => Some(Task::Salvage),
         "join" => Some(Task::Join),
         "stats" => Some(Task::Stats),
+        "fold" => Some(Task::Fold),
         "cut" => Some(Task::Cut),
         "follow" => Some(Task::Follow),
         _ => None,
@@ -107,6 +112,7 @@ pub fn what_is_asked<'a>(
         from: number_of(given, "from"),
         to: number_of(given, "to"),
         limit: number_of(given, "limit"),
+        field: given.get_str("field"),
         resolve: given.get_flag("resolve"),
         merge: given.get_flag("merge"),
         resync: given.get_flag("resync"),

@@ -26,12 +26,14 @@ fn with_readers<'a>(alloc: Global, command: Command<'a>) -> Result<Command<'a>, 
     let json = json(alloc)?;
     let csv = csv(alloc)?;
     let stats = stats(alloc)?;
+    let fold = fold(alloc)?;
     command
         .subcommand(check)?
         .subcommand(dump)?
         .subcommand(json)?
         .subcommand(csv)?
-        .subcommand(stats)
+        .subcommand(stats)?
+        .subcommand(fold)
 }
 
 // The subcommands that write traces, and that which follows one.
@@ -101,6 +103,20 @@ fn stats<'a>(alloc: Global) -> Result<Command<'a>, AllocError> {
             "Examples:\n  gotymbe stats run.trace next.trace\n  gotymbe stats --event Poll run.trace",
         );
     writing(alloc, selecting(alloc, stats)?)
+}
+
+fn fold<'a>(alloc: Global) -> Result<Command<'a>, AllocError> {
+    let field = Arg::new(alloc, "field")
+        .long("field")
+        .value_name("NAME")
+        .help("Add up the numbers of this field, in place of how many events there are");
+    let fold = Command::new(alloc, "fold")
+        .about("Writes what the stacks of events add up to, as lines for flame graphs")
+        .after_help(
+            "Examples:\n  gotymbe fold run.trace next.trace\n  gotymbe fold --event Alloc --field size run.trace",
+        )
+        .arg(field)?;
+    writing(alloc, selecting(alloc, fold)?)
 }
 
 fn salvage<'a>(alloc: Global) -> Result<Command<'a>, AllocError> {

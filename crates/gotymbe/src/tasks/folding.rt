@@ -1,0 +1,76 @@
+//! Adding up the stacks of events.
+
+use crate::output::Noted;
+use crate::pieces::{FrameSink, Picked, read_named};
+use crate::tasks::{Call, settle, tell};
+use dial9_trace_format::decoder::{DecodedFrame, FeedDecoder};
+use gotymbe_plan::ending::Ending;
+use std::alloc::AllocError;
+use std::fs::File;
+use std::rt::{Clock, Files};
+use trace_folded::tally::{FoldError, FoldedStacks};
+use trace_lines::dump::WHOLE;
+use trace_values::leb128::{TraceWrite, send_all};
+
+/// Adds up the stacks of the events that are asked for.
+#[derive(Drop)]
+struct Folding<'c> {
+    stacks: FoldedStacks,
+    field: Option<&'c str>,
+    picked: Picked<'c>,
+}
+
+impl FrameSink for Folding<'_> {
+    fn begin(&mut self, _: u8) -> Result<(), Ending> {
+        Ok(())
+    }
+
+    fn frame<'f>(
+        &mut self,
+        frame: &'f DecodedFrame,
+        decoder: &'f FeedDecoder,
+        _: u64,
+    ) -> Result<(), Ending> {
+        let Some(event) = self.picked.pick(frame, decoder)? else {
+            return Ok(());
+        };
+        match self.stacks.add_event(&event, self.field) {
+            Ok(()) => Ok(()),
+            Err(FoldError::OutOfMemory) => Err(Ending::OutOfMemory),
+            Err(FoldError::Full) => Err(Ending::TooMuch),
+        }
+    }
+
+    fn settle(&mut self) -> Result<(), Ending> {
+        Ok(())
+    }
+
+    fn end(&mut self, _: Ending, _: usize) -> Result<(), Ending> {
+        Ok(())
+    }
+}
+
+/// Writes what the stacks of the events of all files add up to.
+pub(crate) fn fold_all<W: TraceWrite + Drop>(
+    rt: &(impl AllocGlobal + Files<File = File> + Input + Eprint + Clock),
+    call: &Call<'_>,
+    written: &str,
+    out: &mut Noted<W>,
+) -> Result<u8, AllocError> {
+    let mut folding = Folding {
+        stacks: FoldedStacks::new(rt.alloc()),
+        field: call.asked.field,
+        picked: Picked::of(call),
+    };
+    let mut status = WHOLE;
+    for name in call.asked.files.as_slice() {
+        folding.picked = Picked::of(call);
+        let ending = read_named(rt, call, name, &mut folding);
+        status = status.max(tell(rt, name, ending)?);
+    }
+    let lines = folding.stacks.lines()?;
+    match send_all(out, lines.as_bytes()) {
+        Ok(()) => settle(rt, written, out, status),
+        Err(fault) => tell(rt, written, Ending::Unwritten(fault.kind)),
+    }
+}
