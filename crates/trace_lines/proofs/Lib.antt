@@ -18,3 +18,4 @@ mod PiecesSent
 mod ShownForms
 mod NamedValues
 mod FrameLines
+mod PlainRuns

@@ -1,7 +1,7 @@
 use Rattle.std.proofs.Common.{◌≡◌, ◌++◌, take, string_bytes}
 use Rattle.std.specs.List.{flat_map}
 use Rattle.trace_lines.specs.Lines.{quoted_byte}
-use Rattle.trace_lines.proofs.text.push_quoted.Given as goal
+use Rattle.trace_lines.proofs.text.push_each_byte.Given as goal
 
 abbrev pub invariant-loop-byte : goal.invariant-loop-byte
 invariant-loop-byte l =
