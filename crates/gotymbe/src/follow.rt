@@ -2,7 +2,7 @@
 
 ghost use Rattle.std.specs.Io.{ReadsAtMost};
 
-use gotymbe_plan::following::{Change, Seen, has_rested, what_became};
+use gotymbe_plan::following::{Change, Seen, has_rested, is_anew, what_became};
 use std::fs::{File, Metadata};
 use std::io::{ErrorKind, Read};
 use std::os::unix::fs::MetadataExt;
@@ -18,8 +18,8 @@ const REST_MS: u64 = 100;
 pub(crate) enum End {
     /// The file rested so long.
     Idle,
-    /// It shrank, or another one stands under its name: it is read anew.
-    Anew,
+    /// It is read anew after this.
+    Anew(Change),
 }
 
 /// A file that is read while it grows: a read at its end waits for more bytes.
@@ -75,12 +75,10 @@ impl<'r, 'n, R: Files<File = File> + Clock> Following<'r, 'n, R> {
                 self.read = self.read.saturating_add(count as u64);
                 return Ok(count);
             }
-            match self.change() {
-                Change::Shrank | Change::Replaced => {
-                    self.end = End::Anew;
-                    return Ok(0);
-                }
-                Change::Grew | Change::Nothing | Change::Gone => {}
+            let change = self.change();
+            if is_anew(change) {
+                self.end = End::Anew(change);
+                return Ok(0);
             }
             if has_rested(resting_ms, self.idle) {
                 self.end = End::Idle;

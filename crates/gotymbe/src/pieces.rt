@@ -228,7 +228,7 @@ fn feed<R: Read, S: FrameSink>(
     most: u64,
 ) -> Ending {
     let mut piece = [0; PIECE];
-    let mut left = most;
+    let (mut left, mut end) = (most, decoder.position());
     'reads: for _ in 0..u64::MAX {
         if left == 0 {
             return ending_by(decoder);
@@ -238,7 +238,7 @@ fn feed<R: Read, S: FrameSink>(
             Ok(count) => {
                 let front = front_of(&piece[..count], left);
                 left = left.saturating_sub(count as u64);
-                if let Err(ending) = take_piece(decoder, front, sink) {
+                if let Err(ending) = take_piece(decoder, front, sink, &mut end) {
                     return ending;
                 }
             }
@@ -260,17 +260,19 @@ fn front_of(piece: &[u8], most: u64) -> &[u8] {
     }
 }
 
-// Gives the frames that are whole with a piece to a sink; or an ending, where no more are read.
+// Gives the frames that are whole with a piece to a sink; or an ending, where no more are read. The frame before them
+// has an end, and the bytes of each are those after it: a reset may come with an earlier piece.
 fn take_piece<S: FrameSink>(
     decoder: &mut FeedDecoder,
     piece: &[u8],
     sink: &mut S,
+    end: &mut usize,
 ) -> Result<(), Ending> {
     if let Err(error) = decoder.push(piece) {
         return Err(Ending::of_error(error));
     }
     'frames: for _ in 0..u64::MAX {
-        let (begun, before) = (decoder.version().is_some(), decoder.position());
+        let begun = decoder.version().is_some();
         let pulled = decoder.next_frame();
         if !begun {
             if let Some(version) = decoder.version() {
@@ -279,7 +281,8 @@ fn take_piece<S: FrameSink>(
         }
         match pulled {
             Ok(Some(frame)) => {
-                let bytes = decoder.position().saturating_sub(before) as u64;
+                let bytes = decoder.position().saturating_sub(*end) as u64;
+                *end = decoder.position();
                 sink.frame(&frame, decoder, bytes)?;
             }
             Ok(None) => {

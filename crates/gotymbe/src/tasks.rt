@@ -123,15 +123,15 @@ fn write_each<W: TraceWrite + Drop>(
 ) -> Result<u8, AllocError> {
     let mut status = WHOLE;
     for name in call.asked.files.as_slice() {
-        let ending = match call.asked.task {
+        let (ending, before) = match call.asked.task {
             Task::Salvage => saving::salvage_one(rt, call, name, out)?,
-            Task::Cut => saving::cut_one(rt, call, name, out),
-            _ => showing::show_one(rt, call, name, out),
+            Task::Cut => (saving::cut_one(rt, call, name, out), WHOLE),
+            _ => (showing::show_one(rt, call, name, out), WHOLE),
         };
         if let Ending::Unwritten(_) = ending {
             return tell(rt, written, ending);
         }
-        status = status.max(tell(rt, name, ending)?);
+        status = status.max(before).max(tell(rt, name, ending)?);
     }
     settle(rt, written, out, status)
 }

@@ -7,6 +7,7 @@ use crate::pieces::{ending_by, placed};
 use crate::tasks::{Call, tell, write};
 use dial9_trace_format::decoder::FeedDecoder;
 use gotymbe_plan::ending::{Ending, dump_ending};
+use gotymbe_plan::following::{Change, push_anew};
 use gotymbe_plan::output::Standing;
 use std::alloc::AllocError;
 use std::fs::File;
@@ -39,13 +40,28 @@ pub(crate) fn follow(
         };
         let mut decoder = FeedDecoder::new(rt.alloc());
         let status = dump_fed(rt.alloc(), &mut decoder, &mut input, &mut out);
-        if input.end == End::Idle || status == FAILED {
-            let ending = match dump_ending(status, input.error, out.error) {
-                Ending::Dumped(_) => placed(rt, call, name, ending_by(&decoder)),
-                ending => ending,
-            };
-            return tell(rt, name, ending);
+        match input.end {
+            End::Anew(change) if status != FAILED => tell_anew(rt, name, change)?,
+            _ => {
+                let ending = match dump_ending(status, input.error, out.error) {
+                    Ending::Dumped(_) => placed(rt, call, name, ending_by(&decoder)),
+                    ending => ending,
+                };
+                return tell(rt, name, ending);
+            }
         }
     }
     Ok(FAILED)
+}
+
+// Tells why a file is read anew.
+fn tell_anew(
+    rt: &(impl AllocGlobal + Eprint),
+    name: &str,
+    change: Change,
+) -> Result<(), AllocError> {
+    let mut line = String::new(rt.alloc());
+    push_anew(&mut line, name, change)?;
+    let _ = eprint!(rt; "{line}");
+    Ok(())
 }

@@ -10,40 +10,49 @@ use std::rt::{Clock, Files};
 use trace_cuts::cut::{CutError, send_cut};
 use trace_cuts::range::TimeRange;
 use trace_fronts::joining::join;
-use trace_fronts::pieces::salvage_pieces;
+use trace_fronts::pieces::{Gap, salvage_pieces};
 use trace_fronts::salvaging::{SalvageError, salvage};
 use trace_fronts::whole::Readers;
 use trace_lines::dump::WHOLE;
 use trace_values::leb128::TraceWrite;
 
-/// Saves what reads whole of a file, and tells each gap.
+/// Saves what reads whole of a file, and tells each gap but the last. Answers that, and the greatest status of those
+/// before.
 pub(crate) fn salvage_one<W: TraceWrite + Drop>(
     rt: &(impl AllocGlobal + Files<File = File> + Input + Eprint + Clock),
     call: &Call<'_>,
     name: &str,
     out: &mut Noted<W>,
-) -> Result<Ending, AllocError> {
+) -> Result<(Ending, u8), AllocError> {
     let bytes = match read_all(rt, call, name) {
         Ok(bytes) => bytes,
-        Err(ending) => return Ok(ending),
+        Err(ending) => return Ok((ending, WHOLE)),
     };
-    if !call.asked.resync {
-        return Ok(match salvage(rt.alloc(), &bytes, Readers::Owned, out) {
+    if bytes.is_empty() || !call.asked.resync {
+        let ending = match salvage(rt.alloc(), &bytes, Readers::Owned, out) {
             Ok(front) => Ending::of_stop(front.stop),
             Err(error) => unsaved(error),
-        });
+        };
+        return Ok((ending, WHOLE));
     }
     match salvage_pieces(rt.alloc(), &bytes, Readers::Owned, out) {
-        Ok(gaps) => {
-            let mut last = Ending::Whole;
-            for gap in gaps.as_slice() {
-                let _ = tell(rt, name, last)?;
-                last = Ending::Stopped(gap.stop);
-            }
-            Ok(last)
-        }
-        Err(error) => Ok(unsaved(error)),
+        Ok(gaps) => tell_gaps(rt, name, &gaps),
+        Err(error) => Ok((unsaved(error), WHOLE)),
     }
+}
+
+// Tells each gap but the last, and answers that one with the greatest status of those before.
+fn tell_gaps(
+    rt: &(impl AllocGlobal + Eprint),
+    name: &str,
+    gaps: &[Gap],
+) -> Result<(Ending, u8), AllocError> {
+    let (mut last, mut status) = (Ending::Whole, WHOLE);
+    for gap in gaps {
+        status = status.max(tell(rt, name, last)?);
+        last = Ending::Stopped(gap.stop);
+    }
+    Ok((last, status))
 }
 
 /// Cuts a range of times out of a file.

@@ -73,6 +73,7 @@ pub(crate) fn show_one<W: TraceWrite + Drop>(
         form,
         picked: Picked::of(call),
         line: String::new(rt.alloc()),
+        json: Vec::new(rt.alloc()),
         held: Vec::new(rt.alloc()),
         out,
     };
