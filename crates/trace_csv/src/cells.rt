@@ -75,7 +75,7 @@ fn put_row<V: CellValue>(
         (list_map V.value values.now) (fields_of row.new)) }
 {
     row.clear();
-    tri!(push_natural(alloc, row, timestamp_ns));
+    tri!(push_natural(row, timestamp_ns));
     'fields: for value in values {
         tri!(push_cell(alloc, row, strings, stacks, value));
     }
@@ -83,12 +83,12 @@ fn put_row<V: CellValue>(
 }
 
 // Appends a cell of the digits of a number.
-fn push_natural(alloc: Global, row: &mut ByteRecord, number: u64) -> Result<(), AllocError>
+fn push_natural(row: &mut ByteRecord, number: u64) -> Result<(), AllocError>
     requires { partial_of row.old ≡ [] }
     ensures { PushesCell (λ cell. cell ≡ decimal number) row.old row.new result }
 {
-    let digits = tri!(format!(in alloc; "{number}"));
-    row.push_field(digits.as_bytes())
+    let mut digits = itoa::Buffer::new();
+    row.push_field(digits.format(number).as_bytes())
 }
 
 // Appends the cell of a value.
@@ -109,7 +109,7 @@ fn push_cell<V: CellValue>(
             Some(text) => row.push_field(text.as_bytes()),
             None => push_json(alloc, row, strings, stacks, value),
         },
-        CellKind::Natural(number) => push_natural(alloc, row, number),
+        CellKind::Natural(number) => push_natural(row, number),
         CellKind::Float(bits) => push_float(alloc, row, strings, stacks, value, bits),
         CellKind::Absent => row.push_field(b""),
         CellKind::Json => push_json(alloc, row, strings, stacks, value),
