@@ -1,0 +1,26 @@
+use Rattle.std.proofs.Common.{◌≡◌, Some, ap, rules}
+use Rattle.trace_events.specs.OwnedEvents.{owned_event}
+use Rattle.trace_chrome.specs.Labels.{track_name}
+use Rattle.trace_chrome.specs.Tracks.{number_of}
+use Rattle.trace_chrome.specs.Steps.{first_by}
+use Rattle.trace_chrome.proofs.Taking.{event_taken}
+use Rattle.trace_chrome.proofs.trace.ChromeTrace.push_event.Goals as goal
+
+pub returns : goal.returns
+returns c =
+    let e = owned_event c.args.event.now in
+    let old = c.args.self.now in
+    let name_is : c.as_str.result.now ≡ track_name e = search rules in
+    let from_is : c.first_time-from.result ≡ first_by old.start e.time = search rules in
+    let placed = c.in_ok-spot.ensures in
+    let spot_is : c.in_ok-spot.spot
+    ≡ record { track = number_of (track_name e) old.tracks.items; from = first_by old.start e.time; at = e.time } =
+    rw (name_is, from_is) at placed.spot in
+    let line_same : c.deref.result.now ≡ c.in_ok-line.line.items = search rules in
+    event_taken c.push_own.result e old _ c.args.out.now.items _ (ap Some from_is, search rules)
+    (record {
+      line_is = c.in_ok-line.ensures;
+      tracks = rw name_is at placed.tracks;
+      text = rw (name_is, from_is) at placed.text;
+    })
+    (rw spot_is at c.push_own.ensures.tracks) (rw (spot_is, line_same) at c.push_own.ensures.text)

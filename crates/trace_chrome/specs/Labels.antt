@@ -1,0 +1,119 @@
+-- What an event is called, where it lies, and what it is.
+use Rattle.std.specs.Prelude.{◌*◌, ◌-◌, ◌^◌, ℕ, ℤ, pos, negsuc, Bool, true, false, List, Option, Some, None}
+use Rattle.std.specs.Prelude.{is_some, not, codes, option_and_then, if◌then◌else◌, nat_lt}
+use Rattle.std.specs.FinMap as map
+use Rattle.std.specs.Ordering.{nat_cmp}
+use Rattle.std.specs.Fmt.{decimal, signed_decimal}
+use Rattle.std.specs.List.{slice_get}
+use Rattle.std.specs.Option.{unwrap_or}
+use Rattle.trace_values.specs.Values.{Value, integer, number, text, pooled_text}
+use Rattle.trace_wire.specs.Schemas.{Entry}
+use Rattle.dial9_trace_format.specs.ShownEvents.{ShownEvent}
+use Rattle.trace_roles.specs.Roles.{of_schema, note_of, field_with_role, track_of}
+use Rattle.trace_roles.specs.Units.{nanoseconds_in}
+
+-- ---- texts
+
+-- the text that a value is: a whole number's digits, or a text, also by its id
+abbrev pub text_of : map.FinMap nat_cmp (List ℕ) → Value → Option (List ℕ)
+text_of strings (number n) = Some (decimal n)
+text_of strings (integer z) = Some (signed_decimal z)
+text_of strings (text s) = Some s
+text_of strings (pooled_text id) = map.get strings id
+text_of strings v = None
+
+-- the value of a field, if there is such a field
+abbrev pub value_at : ShownEvent → Option ℕ → Option Value
+value_at e index = option_and_then (slice_get e.values) index
+
+-- the first of the two groups that is there, else the name
+abbrev pub home_by : Option (List ℕ) → Option (List ℕ) → List ℕ → List ℕ
+home_by (Some group) other name = group
+home_by None (Some group) name = group
+home_by None None name = name
+
+-- the group whose slices events begin or end, else the name of the schema
+abbrev pub home : Entry → List ℕ
+home entry = home_by (note_of entry of_schema (codes "begin")) (note_of entry of_schema (codes "end")) entry.name
+
+-- the text of a field, and where it has none that of the schema
+abbrev pub label : ShownEvent → Option ℕ → List ℕ
+label e index = unwrap_or (option_and_then (text_of e.pools.strings) (value_at e index)) (home e.entry)
+
+-- the name of the track of an event, and its own name
+abbrev pub track_name : ShownEvent → List ℕ
+track_name e = label e (track_of e.entry)
+
+abbrev pub event_name : ShownEvent → List ℕ
+event_name e = label e (field_with_role e.entry (codes "name"))
+
+-- ---- what an event is
+
+-- an id under which the pool holds nothing
+abbrev pub is_unknown : map.FinMap nat_cmp (List ℕ) → Value → Bool
+is_unknown strings (pooled_text id) = not (is_some (map.get strings id))
+is_unknown strings v = false
+
+-- a field has such an id
+abbrev pub is_unknown_by : map.FinMap nat_cmp (List ℕ) → Option Value → Bool
+is_unknown_by strings (Some v) = is_unknown strings v
+is_unknown_by strings None = false
+
+-- nobody knows on which track the event lies
+abbrev pub lies_nowhere : ShownEvent → Bool
+lies_nowhere e = is_unknown_by e.pools.strings (value_at e (track_of e.entry))
+
+-- it begins a slice of a group, ends one, is one of so many nanoseconds, or happens at its time
+pub data What : Type 0 where
+  begins : List ℕ → What
+  ends : List ℕ → What
+  takes : ℕ → What
+  happens : What
+
+-- a number, where it is not below 0, and else 0
+abbrev pub natural_in : ℤ → ℕ
+natural_in (pos n) = n
+natural_in (negsuc n) = 0
+
+-- the number from 0 on that a value is, and 0 of any other
+abbrev pub natural_of : Value → ℕ
+natural_of (number n) = n
+natural_of (integer z) = natural_in z
+natural_of v = 0
+
+-- that of a field, and 0 where there is none
+abbrev pub natural_by : Option Value → ℕ
+natural_by (Some v) = natural_of v
+natural_by None = 0
+
+-- the unit that a field is annotated with
+abbrev pub unit_of : Entry → ℕ → Option (List ℕ)
+unit_of entry index = note_of entry index (codes "unit")
+
+-- how many nanoseconds one of a unit is, and 1 where it is no unit of time
+abbrev pub unit_by : Option (List ℕ) → ℕ
+unit_by (Some unit) = unwrap_or (nanoseconds_in unit) 1
+unit_by None = 1
+
+-- so many nanoseconds, of 64 bits
+abbrev pub capped : ℕ → ℕ
+capped n = if nat_lt n (2 ^ 64) then n else 2 ^ 64 - 1
+
+-- how long an event took by a field, in nanoseconds
+abbrev pub length_by : ShownEvent → ℕ → ℕ
+length_by e index =
+    capped (natural_by (value_at e (Some index)) * unit_by (unit_of e.entry index))
+
+-- what an event is, by the group that it begins, the one that it ends, and the field of its length
+abbrev pub what_by : ShownEvent → Option (List ℕ) → Option (List ℕ) → Option ℕ → What
+what_by e (Some group) other index = begins group
+what_by e None (Some group) index = ends group
+what_by e None None (Some index) = takes (length_by e index)
+what_by e None None None = happens
+
+-- what an event is, by its roles; one whose track nobody knows happens
+abbrev pub what_of : ShownEvent → What
+what_of e =
+    if lies_nowhere e then happens
+    else what_by e (note_of e.entry of_schema (codes "begin")) (note_of e.entry of_schema (codes "end"))
+    (field_with_role e.entry (codes "duration"))
