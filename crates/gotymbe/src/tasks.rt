@@ -15,6 +15,7 @@ use trace_values::leb128::{Plain, TraceWrite};
 
 mod folding;
 mod following;
+mod paging;
 mod saving;
 mod showing;
 mod tabling;
@@ -110,6 +111,7 @@ fn write_to<W: TraceWrite + Drop>(
         Task::Join => saving::join_all(rt, call, written, &mut out),
         Task::Stats => showing::stats_of_all(rt, call, written, &mut out),
         Task::Fold => folding::fold_all(rt, call, written, &mut out),
+        Task::Page => paging::write_page(rt, call, written, &mut out),
         _ if call.asked.merge => merge_all(rt, call, written, &mut out),
         _ => write_each(rt, call, written, &mut out),
     }

@@ -10,7 +10,7 @@ use Rattle.clap.specs.declared.error.kind.ErrorKind.TheVariants.{DisplayHelp, Di
 use Rattle.gotymbe_words.specs.declared.asked.Asked.{Asked}
 use Rattle.gotymbe_words.specs.declared.asked.Task.{Task}
 use Rattle.gotymbe_words.specs.declared.asked.Task.TheVariants.{Check, Dump, Json, Csv, Salvage, Join, Stats}
-use Rattle.gotymbe_words.specs.declared.asked.Task.TheVariants.{Fold, Cut, Follow}
+use Rattle.gotymbe_words.specs.declared.asked.Task.TheVariants.{Fold, Cut, Follow, Page}
 
 -- the name of each task
 abbrev pub task_name : Task → List ℕ
@@ -24,6 +24,7 @@ task_name Stats = codes "stats"
 task_name Fold = codes "fold"
 task_name Cut = codes "cut"
 task_name Follow = codes "follow"
+task_name Page = codes "page"
 
 -- the task of this name, or none has it
 abbrev pub IsTaskNamed : List ℕ → Option Task → Type 0
@@ -69,6 +70,7 @@ pub record IsAsked (task : Task) (given : ArgMatches) (asked : Asked) : Type 0 w
   pub resync : IsFlag given (codes "resync") asked.resync
   pub idle : IsNumberOf given (codes "idle") asked.idle
   pub quiet : IsFlag given (codes "quiet") asked.quiet
+  pub title : option_map (λ s. s.now) asked.title ≡ first_value (found_of given) (codes "title")
 
 -- a time, a name or a number of events is said
 abbrev pub Selects : Asked → Type 0

@@ -30,6 +30,8 @@ pub enum Task {
     Cut,
     /// Writes the lines of a trace as it grows.
     Follow,
+    /// Writes a page that shows traces.
+    Page,
 }
 
 /// What the words of a call ask for.
@@ -63,6 +65,8 @@ pub struct Asked<'a> {
     pub idle: Option<u64>,
     /// Whether nothing is told of how far reading is.
     pub quiet: bool,
+    /// The title of a page.
+    pub title: Option<&'a str>,
 }
 
 impl Asked<'_> {
@@ -89,6 +93,7 @@ pub fn task_of(name: &str) -> Option<Task>
         "fold" => Some(Task::Fold),
         "cut" => Some(Task::Cut),
         "follow" => Some(Task::Follow),
+        "page" => Some(Task::Page),
         _ => None,
     }
 }
@@ -118,6 +123,7 @@ pub fn what_is_asked<'a>(
         resync: given.get_flag("resync"),
         idle: number_of(given, "idle"),
         quiet: given.get_flag("quiet"),
+        title: given.get_str("title"),
     })
 }
 

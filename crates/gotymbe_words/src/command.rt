@@ -27,13 +27,15 @@ fn with_readers<'a>(alloc: Global, command: Command<'a>) -> Result<Command<'a>, 
     let csv = csv(alloc)?;
     let stats = stats(alloc)?;
     let fold = fold(alloc)?;
+    let page = page(alloc)?;
     command
         .subcommand(check)?
         .subcommand(dump)?
         .subcommand(json)?
         .subcommand(csv)?
         .subcommand(stats)?
-        .subcommand(fold)
+        .subcommand(fold)?
+        .subcommand(page)
 }
 
 // The subcommands that write traces, and that which follows one.
@@ -117,6 +119,20 @@ fn fold<'a>(alloc: Global) -> Result<Command<'a>, AllocError> {
         )
         .arg(field)?;
     writing(alloc, selecting(alloc, fold)?)
+}
+
+fn page<'a>(alloc: Global) -> Result<Command<'a>, AllocError> {
+    let title = Arg::new(alloc, "title")
+        .long("title")
+        .value_name("TEXT")
+        .help("The title of the page, in place of the first file's name");
+    let page = Command::new(alloc, "page")
+        .about("Writes one HTML file that shows the events of all traces")
+        .after_help(
+            "Examples:\n  gotymbe page -o run.html run.trace\n  gotymbe page --title Day -o day.html a.trace b.trace",
+        )
+        .arg(title)?;
+    writing(alloc, selecting(alloc, page)?)
 }
 
 fn salvage<'a>(alloc: Global) -> Result<Command<'a>, AllocError> {
