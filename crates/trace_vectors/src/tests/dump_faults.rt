@@ -58,14 +58,26 @@ const CUT_EVENT: [u8; 25] = [
     0x00, 0x76, 0x09, 0x02, 0x00, 0x01, 0xE8, 0x03, 0x00,
 ];
 
+/// The one event, and a header without its last byte.
+const CUT_HEADER: [u8; 30] = [
+    0x54, 0x52, 0x43, 0x00, 0x01, 0x01, 0x00, 0x01, 0x02, 0x00, 0x45, 0x76, 0x01, 0x01, 0x00, 0x01,
+    0x00, 0x76, 0x09, 0x02, 0x00, 0x01, 0xE8, 0x03, 0x00, 0x2A, 0x54, 0x52, 0x43, 0x00,
+];
+
 /// Traces, and the status and the lines of their dumps.
-pub const DUMPS: [(&[u8], u8, &str); 4] = [
+pub const DUMPS: [(&[u8], u8, &str); 6] = [
     (&ONE_EVENT, WHOLE, LINES),
     (&[], NO_HEADER, "no header\n"),
+    (&[0x54, 0x52, 0x43, 0x00], NO_HEADER, "no header\n"),
     (
         &CUT_EVENT,
         STOPPED,
         "trace version 1\nschema \"Ev\" \"v\":Varint\nend stopped at 19\n",
+    ),
+    (
+        &CUT_HEADER,
+        STOPPED,
+        "trace version 1\nschema \"Ev\" \"v\":Varint\nevent 256 1000 Varint:42\nend stopped at 26\n",
     ),
     (&HEADER, WHOLE, "trace version 1\nend whole\n"),
 ];

@@ -56,6 +56,39 @@ fn errors_of_registering(rt: HostRuntime) -> Result<(), Fail> {
     Ok(())
 }
 
+/// Errors of a decoder that is fed in pieces that recordings have not.
+const FEEDING: [(DecodeError, &str); 3] = [
+    (
+        DecodeError {
+            pos: 0,
+            kind: DecodeErrorKind::NoHeader,
+        },
+        "decode error at byte 0: no trace header",
+    ),
+    (
+        DecodeError {
+            pos: 26,
+            kind: DecodeErrorKind::InputTooLong,
+        },
+        "decode error at byte 26: input exceeds its range",
+    ),
+    (
+        DecodeError {
+            pos: 19,
+            kind: DecodeErrorKind::OutOfMemory,
+        },
+        "decode error at byte 19: out of memory",
+    ),
+];
+
+#[test]
+fn errors_of_feeding(rt: HostRuntime) -> Result<(), Fail> {
+    for (error, text) in FEEDING {
+        assert!(rt; format!(in rt.alloc(); "{error}")?.as_str() == text);
+    }
+    Ok(())
+}
+
 /// Errors of a reader that shows events to a sink that recordings have not: want of memory, and the sink's own.
 const SHOWING: [(TryForEachError<EncodeError>, &str); 2] = [
     (
