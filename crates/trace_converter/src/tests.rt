@@ -1,6 +1,9 @@
 //! Events of each kind, size and count, converted with ample memory: none is refused. A schema and its field get names
 //! of one byte in place of others, so that the trace that is wanted differs from the one that was read in these alone.
 
+mod nested;
+mod wide;
+
 use crate::converter::{ConvertError, Converter};
 use crate::rules::Rule;
 use dial9_trace_format::decoder::{Decoder, TryForEachError};
