@@ -120,6 +120,21 @@ static void addresses(text *t, trace_slice s) {
     say(t, "]");
 }
 
+static void value(text *t, trace_cursor *c, bool is_field);
+
+/* Values, or pairs of them, with commas between them. */
+static void items(text *t, trace_cursor *c, bool are_pairs) {
+    uint64_t count = trace_take_number(c, 4);
+    for (uint64_t i = 0; i < count; i++) {
+        say(t, i ? "," : "");
+        value(t, c, false);
+        if (are_pairs) {
+            say(t, "=");
+            value(t, c, false);
+        }
+    }
+}
+
 static void value(text *t, trace_cursor *c, bool is_field) {
     uint8_t tag = *trace_take(c, 1);
     if ((tag & TRACE_OPTIONAL) && is_field && *trace_take(c, 1) == 0) {
@@ -175,22 +190,12 @@ static void value(text *t, trace_cursor *c, bool is_field) {
     }
     case TRACE_LIST:
         say(t, "List:[");
-        count = trace_take_number(c, 4);
-        for (uint64_t i = 0; i < count; i++) {
-            say(t, i ? "," : "");
-            value(t, c, false);
-        }
+        items(t, c, false);
         say(t, "]");
         return;
     default:
         say(t, "Map:{");
-        count = trace_take_number(c, 4);
-        for (uint64_t i = 0; i < count; i++) {
-            say(t, i ? "," : "");
-            value(t, c, false);
-            say(t, "=");
-            value(t, c, false);
-        }
+        items(t, c, true);
         say(t, "}");
     }
 }

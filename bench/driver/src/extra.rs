@@ -6,10 +6,10 @@ use dial9_trace_format::types::{FieldType as T, FieldValue as V, StackFrames};
 /// Their names, in the order of their numbers.
 pub const TRACES: [&str; 9] = ["f1", "f8", "f16", "f64", "text1k", "stack1", "stack128", "list100", "smap"];
 
-fn step(time: u64, i: u64) -> u64 {
+pub fn step(time: u64, i: u64) -> u64 {
     time.wrapping_add(1000 + (i & 0xff))
 }
-fn repeated(fields: &[(&'static str, T)], values: &[V], count: u64) -> Vec<u8> {
+pub fn repeated(fields: &[(&'static str, T)], values: &[V], count: u64) -> Vec<u8> {
     let mut e = Encoder::new();
     let s = e.register_schema("Repeated", fields.iter().map(|f| FieldDef::new(f.0, f.1)).collect()).unwrap();
     let mut time = 0;
@@ -19,13 +19,13 @@ fn repeated(fields: &[(&'static str, T)], values: &[V], count: u64) -> Vec<u8> {
     }
     e.finish()
 }
-fn numbers(n: u64) -> Vec<V> {
+pub fn numbers(n: u64) -> Vec<V> {
     (0..n).map(|i| V::Varint(i.wrapping_mul(40503) & 0xffff)).collect()
 }
-fn many(n: u64, count: u64) -> Vec<u8> {
+pub fn many(n: u64, count: u64) -> Vec<u8> {
     repeated(&vec![("field", T::Varint); n as usize], &numbers(n), count)
 }
-fn texts(len: usize, count: u64) -> Vec<u8> {
+pub fn texts(len: usize, count: u64) -> Vec<u8> {
     repeated(&[("text", T::String)], &[V::String("x".repeat(len))], count)
 }
 fn stacks(n: u64, count: u64) -> Vec<u8> {

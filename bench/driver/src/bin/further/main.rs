@@ -1,5 +1,8 @@
 //! Further workloads of the original and the library side by side, in a program of their own, so that how the other
 //! program's workloads are inlined does not hang on them. See ../../../../README.md.
+#[allow(dead_code)]
+#[path = "../../extra.rs"]
+mod extra;
 mod more;
 #[path = "../../polls.rs"]
 mod polls;

@@ -1,6 +1,7 @@
 //! Further workloads, over the original. `library/bench_x` has the same over the library: wide events, long texts,
 //! stacks, lists and maps of texts, small traces, other writers, pools, copies, equality, iterators, resolved events.
-use crate::polls::SlotPoll;
+use crate::extra::{many, numbers, repeated, step, texts};
+use crate::writing::slot_polls;
 use dial9_trace_format::codec::PoolEntry;
 use dial9_trace_format::decoder::{DecodedFrame, DecodedFrameRef, Decoder, RawEvent};
 use dial9_trace_format::encoder::{Encoder, Schema};
@@ -25,30 +26,8 @@ pub const FORMS: [&str; 9] = ["encode", "decode", "clone", "eq", "ref_decode", "
 pub const KINDS: [&str; 13] =
     ["num", "i64", "bool", "pooled", "text", "bytes16", "text1k", "stack32", "stack128", "smap", "list", "map", "list100"];
 
-fn step(time: u64, i: u64) -> u64 {
-    time.wrapping_add(1000 + (i & 0xff))
-}
 fn define<W: Write>(e: &mut Encoder<W>, name: &str, fields: &[(&'static str, T)]) -> Schema {
     e.register_schema(name, fields.iter().map(|f| FieldDef::new(f.0, f.1)).collect()).unwrap()
-}
-fn repeated(fields: &[(&'static str, T)], values: &[V], count: u64) -> Vec<u8> {
-    let mut e = Encoder::new();
-    let s = define(&mut e, "Repeated", fields);
-    let mut time = 0;
-    for i in 0..count {
-        time = step(time, i);
-        e.write_event(&s, time, values).unwrap();
-    }
-    e.finish()
-}
-fn numbers(n: u64) -> Vec<V> {
-    (0..n).map(|i| V::Varint(i.wrapping_mul(40503) & 0xffff)).collect()
-}
-fn many(n: u64, count: u64) -> Vec<u8> {
-    repeated(&vec![("field", T::Varint); n as usize], &numbers(n), count)
-}
-fn texts(len: usize, count: u64) -> Vec<u8> {
-    repeated(&[("text", T::String)], &[V::String("x".repeat(len))], count)
 }
 fn addresses(n: u64) -> Vec<u64> {
     (0..n).map(|i| 0x7f00_0000_1000 + i * 4093).collect()
@@ -194,15 +173,6 @@ fn known_events(count: u64) -> Vec<u8> {
     threes(&mut e, &s, count);
     e.finish()
 }
-fn known_slots(count: u64) -> Vec<u8> {
-    let mut e = Encoder::new();
-    let mut time = 0;
-    for i in 0..count {
-        time = step(time, i);
-        e.write(&SlotPoll::new(time, i)).unwrap();
-    }
-    e.finish()
-}
 fn nested_value() -> V {
     V::List(vec![V::Varint(1), V::Bool(true), V::string("inner text"), V::List(vec![V::Varint(300), V::Varint(7)])])
 }
@@ -232,7 +202,7 @@ pub fn written(work: u32, count: u64) -> Vec<u8> {
         20 => wides(count),
         21 => many(0, count),
         22 => known_events(count),
-        _ => known_slots(count),
+        _ => slot_polls(count),
     }
 }
 
