@@ -2,6 +2,7 @@
 //! of one byte in place of others, so that the trace that is wanted differs from the one that was read in these alone.
 
 mod nested;
+mod slots;
 mod wide;
 
 use crate::converter::{ConvertError, Converter};
