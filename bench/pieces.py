@@ -1,8 +1,10 @@
 #!/usr/bin/env python3
-"""Counts what reading in pieces costs beside reading whole: instructions by callgrind, and the most memory.
+"""Counts what reading in pieces costs beside reading whole: instructions by cachegrind, and the most memory.
 
 pieces.py FOLDER [parts|bytes|events|memory ..]
-    FOLDER, outside the repository, is where the program `bench_p` is proved and built. Without words all is counted.
+pieces.py --program PROGRAM [parts|bytes|events|memory ..]
+    FOLDER, outside the repository, is where the program `bench_p` is proved and built; PROGRAM is one that
+    `unproved.py --pieces` built. Without words all is counted.
     parts: one frame of 16 MB in pieces of 4,096 bytes, fed and pulled. bytes: one of 100 KB in pieces of one byte.
     events: a dump while the input is read, beside a dump of the whole. memory: what such a dump takes of a pipe.
 """
@@ -126,25 +128,24 @@ def build(folder):
 
 
 def instructions(program, data, *words):
-    command = ["valgrind", "--tool=callgrind", "--callgrind-out-file=/dev/null", program, *map(str, words)]
+    # (as callgrind counts them, in a third of the time)
+    command = ["valgrind", "--tool=cachegrind", "--cache-sim=no", "--cachegrind-out-file=/dev/null", program, *map(str, words)]
     with tempfile.TemporaryFile() as file:
         file.write(data)
         file.seek(0)
         ran = subprocess.run(command, stdin=file, stdout=subprocess.DEVNULL, stderr=subprocess.PIPE, text=True,
                              env={**os.environ, "GLIBC_TUNABLES": COPIES})
-    return int(re.search(r"Collected : (\d+)", ran.stderr)[1])
-
-
-def of_frame(program, data, form, piece):
-    return instructions(program, data, form, piece, 1) - instructions(program, data, form, piece, 0)
+    return int(re.search(r"I +refs: +([\d,]+)", ran.stderr)[1].replace(",", ""))
 
 
 def count_frames(program, size, piece, parts):
     for kind, make in KINDS.items():
         for part in parts:
             data = make(part, size)
-            whole = of_frame(program, data, "feed", len(data))
-            told = [f"{form} {of_frame(program, data, form, piece) / whole:6.2f}" for form in ("feed", "pull")]
+            # (what is no reading)
+            beside = instructions(program, data, "feed", piece, 0)
+            whole = instructions(program, data, "feed", len(data), 1) - beside
+            told = [f"{form} {(instructions(program, data, form, piece, 1) - beside) / whole:6.2f}" for form in ("feed", "pull")]
             print(f"{kind:13} parts of {part:5,} frame of {len(data):10,} pieces of {piece:5,}: whole {whole:13,}  "
                   + "  ".join(told), flush=True)
 
@@ -191,7 +192,9 @@ def count_memory(program):
 
 
 def main():
-    program, words = build(sys.argv[1]), sys.argv[2:] or ["parts", "bytes", "events", "memory"]
+    given = sys.argv[1:]
+    program, words = (given[1], given[2:]) if given[0] == "--program" else (build(given[0]), given[1:])
+    words = words or ["parts", "bytes", "events", "memory"]
     if "parts" in words:
         count_frames(program, 16_000_000, 4096, (1, 64, 1000))
     if "bytes" in words:
