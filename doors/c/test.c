@@ -136,6 +136,12 @@ int main(void) {
         at += report.read;
     }
     expect(events == 2 && at == length, "both events, to the end");
+
+    /* what was read, recorded: the schema is told without its annotation, and then with it */
+    uint8_t copy[1000];
+    expect(trace_read(state, 0, trace, length, 9, out, sizeof out, &report) == TRACE_DONE, "read at once");
+    expect(trace_record(out, report.length, copy, sizeof copy, &report) == TRACE_DONE, "recorded from what was read");
+    expect(report.length == length && !memcmp(copy, trace, length), "the same trace");
     expect(trace_read(state, 0, (const uint8_t *)"nothing", 7, 1, out, sizeof out, &report) == TRACE_NO_HEADER,
            "nothing to read");
     expect(trace_read((const uint8_t *)"none", 4, (const uint8_t *)"nothing", 7, 1, out, sizeof out, &report)

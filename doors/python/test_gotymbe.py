@@ -244,13 +244,29 @@ class Doors(unittest.TestCase):
                 self.assertLessEqual(found.events, most)
             self.assertEqual([(it.time, tuple(it.row)) for it in read], [(2**24 * n, row) for n, row in enumerate(rows)])
             self.assertEqual(read[-1].schema.annotations, notes)
-            # (a schema with annotations is told twice, which a recorder refuses)
-            if notes:
-                with self.assertRaises(TraceError) as it:
-                    record_batch(found.batch)
-                self.assertEqual(it.exception.code, 32)
-                continue
-            self.assertEqual([it.time for it in gotymbe.read(record_batch(found.batch))], [it.time for it in read[-found.events:]])
+            # recorded again, also where annotations are told after their schema
+            again = list(gotymbe._Bytes(gotymbe.read_batch(record_batch(found.batch)).batch).events())
+            self.assertEqual([(it.time, tuple(it.row), it.schema.annotations) for it in again],
+                             [(it.time, tuple(it.row), notes) for it in read[-found.events:]])
+
+    def test_schemas_told_again(self):
+        """A schema right after another of its number: one where name and fields are the same, and else two."""
+        bare, noted = Schema("A", [("n", VARINT)]), Schema("A", [("n", VARINT)], [(0, "unit", "ns")])
+        more = Schema("A", [("n", VARINT)], [(0, "unit", "ns"), (0, "kind", "counter")])
+        event = b"\x02" + struct.pack("<HQH", 1, 7, 1) + b"\x09\x05"
+        for last, notes in ((bare, ()), (noted, noted.annotations), (more, more.annotations)):
+            for before in ((), (bare,), (noted, bare), (bare, noted, more)):
+                trace = record_batch(b"".join(it.record(1) for it in (*before, last)) + event)
+                self.assertEqual(trace, record([(last, 7, [5])]))
+                self.assertEqual([tuple(it.schema.annotations) for it in gotymbe.read(trace)], [tuple(notes)])
+        other = Schema("A", [("m", VARINT)])
+        for records, place in ((bare.record(1) + other.record(1), 1), (bare.record(1) + noted.record(2), 1),
+                               (bare.record(1) + event + noted.record(1), 2)):
+            with self.assertRaises(TraceError) as it:
+                record_batch(records)
+            self.assertEqual((it.exception.code, it.exception.place), (32, place))
+        two = record_batch(bare.record(1) + Schema("B", [("n", VARINT)]).record(1) + event)
+        self.assertEqual([it.name for it in gotymbe.read(two)], ["B"])
 
     def test_nothing_to_read(self):
         for state, code in ((b"", 58), (b"none", 60), (record([])[:4], 60), (record([(Schema("A", []), 1, [])]), 60)):

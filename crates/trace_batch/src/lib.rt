@@ -3,7 +3,7 @@
 #![tactic(auto)]
 
 mod accepting;
-mod asking;
+pub mod asking;
 pub mod batch_error;
 pub mod laws;
 pub mod read;

@@ -1,6 +1,8 @@
 //! The Rust door: events of each type, refusals, recorded traces.
 
-use gotymbe_door::{check, dump, events, read_batch, Cause, Error, Event, FieldType, ReadValue, Recorder, Schema, Value};
+use gotymbe_door::{
+    check, dump, events, read_batch, record_batch, Cause, Error, Event, FieldType, ReadValue, Recorder, Schema, Value,
+};
 use std::path::Path;
 
 fn all_types() -> Schema {
@@ -65,6 +67,9 @@ fn each_type() -> Result<(), Error> {
     assert_eq!(read[0].get("k"), Some(&ReadValue::Stack(vec![16, 255])));
     assert_eq!(read[0].get("d"), Some(&ReadValue::Map(vec![(ReadValue::Bool(false), ReadValue::List(vec![]))])));
     assert_eq!(read[0].get("o"), Some(&ReadValue::Absent));
+    // what was read, recorded again: the annotations too
+    assert!(dump(&trace, false)?.lines.contains("\"unit\"") && dump(&trace, false)?.lines.contains("\"ns\""));
+    assert_eq!(record_batch(&read_batch(&[], &trace, 1)?.batch)?, trace);
     Ok(())
 }
 
