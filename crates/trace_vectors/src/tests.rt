@@ -7,6 +7,7 @@ mod checks;
 mod copies;
 mod dump_faults;
 mod example;
+mod faulty_inputs;
 mod feeding;
 mod frames;
 mod hashers;
