@@ -11,13 +11,13 @@ use trace_lines::pieces::dump_pieces;
 use trace_samples::Told;
 use trace_values::leb128::Faults;
 
-/// Gives a byte a read. The read behind so many bytes answers an error, once.
+/// Gives a byte a read. The read after so many bytes answers an error, once.
 #[derive(Drop)]
 struct FailsOnce<'a> {
     bytes: &'a [u8],
     before: usize,
     fault: Option<ErrorKind>,
-    // reads behind the one that failed
+    // reads after the one that failed
     later: usize,
 }
 
@@ -35,7 +35,7 @@ impl Read for FailsOnce<'_> {
     }
 }
 
-/// The one event, the read behind so many of whose bytes fails.
+/// The one event, the read after so many of whose bytes fails.
 fn failing_once(before: usize, fault: ErrorKind) -> FailsOnce<'static> {
     FailsOnce {
         bytes: &ONE_EVENT,
