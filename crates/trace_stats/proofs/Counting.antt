@@ -1,10 +1,11 @@
 -- One number more.
 use Rattle.std.proofs.Common.{◌≡◌, ◌<◌, ◌≤◌, ◌⊎◌, inl, inr, ◌+◌, ◌==◌, ℕ, Bool, true, false, cond, List, [], ◌∷◌}
 use Rattle.std.proofs.Common.{◌++◌}
-use Rattle.std.proofs.Common.{length, get_or, set, replicate, sym, ap, subst, refl, ◌∙◌, add-zero, arith}
+use Rattle.std.proofs.Common.{zero, suc, min, max, length, get_or, set, replicate, sym, ap, subst, refl, ◌∙◌, add-zero}
+use Rattle.std.proofs.Common.{arith}
 use Rattle.std.proofs.Common.{length-append}
 use Rattle.std.specs.List.{All, Contains, count_by}
-use Rattle.std.proofs.lemmas.Bool.{eqb-true, eqb-false}
+use Rattle.std.proofs.lemmas.Bool.{cases_lt, eqb-true, eqb-false}
 use Rattle.std.proofs.lemmas.List.{get_or-replicate, get_or-set_same, get_or-set_other}
 use Rattle.std.proofs.lemmas.List.Elements.{All-nil, All-push, Contains-push, Contains-append_left}
 use Rattle.std.proofs.lemmas.List.Sums.{sum_by_push, sum_by-le, count_by-le-length}
@@ -72,6 +73,40 @@ pub record GreatestWith (n : ℕ) (old new : Summary) : Type 0 where
   pub above : n ≤ new.greatest
   pub others : 0 < old.count → old.greatest ≤ new.greatest
   pub which : (new.greatest ≡ n) ⊎ ((0 < old.count) × (new.greatest ≡ old.greatest))
+
+-- where there is one that is not the greatest that there can be, some were counted
+some_less :
+    (count least n : ℕ) → (count ≡ 0 → least ≡ 18446744073709551615) → n < 18446744073709551616 → least < n → 0 < count
+some_less zero least n none fits lt = absurd (omega (arith, none refl, fits, lt))
+some_less (suc count) least n none fits lt = omega arith
+
+-- and one that is not the least
+some_greater : (count greatest n : ℕ) → (count ≡ 0 → greatest ≡ 0) → n < greatest → 0 < count
+some_greater zero greatest n none lt = absurd (omega (arith, none refl, lt))
+some_greater (suc count) greatest n none lt = omega arith
+
+-- the least of a number and those before it is theirs where they are some, and that is no greater
+pub least_with :
+    (n : ℕ) (old new : Summary) → n < 18446744073709551616 → new.least ≡ min old.least n → LeastWith n old new
+least_with n old new fits is = record {
+  below = omega (arith, is);
+  others = λ some. omega (arith, is);
+  which = elim (cases_lt old.least n) [
+    | inl lt ↦ inr (some_less old.count old.least n old.least_of_none fits lt, omega (arith, is, lt))
+    | inr le ↦ inl (omega (arith, is, le))
+  ];
+}
+
+-- and the greatest
+pub greatest_with : (n : ℕ) (old new : Summary) → new.greatest ≡ max old.greatest n → GreatestWith n old new
+greatest_with n old new is = record {
+  above = omega (arith, is);
+  others = λ some. omega (arith, is);
+  which = elim (cases_lt n old.greatest) [
+    | inl lt ↦ inr (some_greater old.count old.greatest n old.greatest_of_none lt, omega (arith, is, lt))
+    | inr le ↦ inl (omega (arith, is, le))
+  ];
+}
 
 -- a number was counted too
 pub one_number_more :

@@ -1,4 +1,5 @@
 pub mod Counting
 pub mod FieldLemmas
+pub mod SameLemmas
 pub mod SchemaLemmas
 pub mod TraceLemmas

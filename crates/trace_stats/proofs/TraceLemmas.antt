@@ -12,25 +12,8 @@ use Rattle.std.proofs.lemmas.List.Elements.{All-push, filter-append}
 use Rattle.std.proofs.lemmas.List.Folds.{list_any-append, list_any_at, list_any_none}
 use Rattle.std.proofs.lemmas.List.Sums.{fold-append}
 use Rattle.std.proofs.Math.Seq.{get_or-append_seam, map-set_same}
-use Rattle.std.proofs.Common.{Option, Some, None}
-use Rattle.std.specs.Option.{option_map}
-use Rattle.std.specs.FinMap as map
-use Rattle.std.specs.Ordering.{nat_cmp}
-use Rattle.std.specs.Prelude.{Vec}
-use Rattle.std.specs.declared.alloc.Global.{Global}
-use Rattle.trace_values.specs.Values.{Value}
-use Rattle.trace_values.specs.ValueViews.{views}
-use Rattle.trace_values.specs.declared.types.field_value.FieldValue.{FieldValue}
-use Rattle.trace_wire.specs.declared.schema.WireTypeId.{WireTypeId}
-use Rattle.trace_wire.specs.Runs.{Pools}
-use Rattle.trace_wire.specs.WireTypes.{entry_of}
-use Rattle.trace_wire.specs.Schemas.{Entry, WireType, same_entry}
+use Rattle.trace_wire.specs.Schemas.{Entry, same_entry}
 use Rattle.trace_wire.proofs.SameEntries.{same_entry-Decides}
-use Rattle.dial9_trace_format.specs.ShownEvents.{ShownEvent}
-use Rattle.dial9_trace_format.specs.Sinks.{event_by}
-use Rattle.dial9_trace_format.specs.DecodedFrames.{item_of}
-use Rattle.dial9_trace_format.specs.declared.decoder.decoded_frame.DecodedFrame.{DecodedFrame}
-use Rattle.dial9_trace_format.specs.declared.decoder.decoded_frame.DecodedFrame.TheVariants as frames
 use Rattle.trace_stats.specs.Summaries.{most_counted}
 use Rattle.trace_stats.specs.Events.{Counted, IsSchemaOf}
 use Rattle.trace_events.specs.Schemas.{bare, is_same_schema}

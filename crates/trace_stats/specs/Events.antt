@@ -1,8 +1,7 @@
 -- What is kept of the events of a schema.
-use Rattle.std.specs.Prelude.{◌≡◌, ◌<◌, ℕ, List, [], length, get_or, take, drop, map as list_map}
+use Rattle.std.specs.Prelude.{◌≡◌, ◌<◌, ℕ, List, length, get_or, take, drop, map as list_map}
 use Rattle.std.specs.List.{flat_map}
 use Rattle.trace_values.specs.Values.{Value}
-use Rattle.trace_wire.specs.Schemas.{Entry}
 use Rattle.dial9_trace_format.specs.Resolving.{in_full}
 use Rattle.dial9_trace_format.specs.ShownEvents.{ShownEvent}
 use Rattle.trace_stats.specs.Summaries.{IsSummaryOf}

@@ -4,6 +4,7 @@
 pub mod field;
 pub mod full;
 mod measure;
+mod same;
 pub mod schema;
 pub mod summary;
 #[cfg(test)]

@@ -10,10 +10,10 @@ ghost use Rattle.trace_stats.specs.parts.Events.{AddsAt, AddsValues, IsFullAt, A
 use crate::field::FieldStats;
 use crate::full::Full;
 use crate::measure::measure_of;
+use crate::same::is_same;
 use crate::summary::Summary;
 use dial9_trace_format::decoder::RawEvent;
 use std::alloc::{AllocError, Global};
-use trace_events::schema::is_same_schema;
 use trace_wire::schema::SchemaEntry;
 
 mod owned;
@@ -63,7 +63,7 @@ impl SchemaStats {
     pub(crate) fn is_of(&self, schema: &SchemaEntry) -> bool
         ensures { result ≡ is_same_schema self.now.schema schema.now }
     {
-        is_same_schema(&self.schema, schema)
+        is_same(&self.schema, schema)
     }
 
     /// The schema, without its annotations.

@@ -1,8 +1,6 @@
 //! What is kept of numbers that are counted.
 
-ghost use Rattle.std.specs.Prelude.{◌≡◌, ◌<◌, ◌≤◌, ◌++◌, ◌∷◌, ◌⊎◌, ◌==◌, [], ℕ, List, cond, None, Some};
-ghost use Rattle.std.specs.Prelude.{OnOk, OnErr, length};
-ghost use Rattle.trace_stats.specs.Summaries.{IsSummaryOf, most_counted};
+ghost use Rattle.std.specs.Prelude.{◌≡◌};
 
 use crate::full::Full;
 
@@ -15,16 +13,21 @@ pub struct Summary {
     greatest: u64,
     sum: u128,
     by_digits: [u64; 65],
+    ghost least_of_none: { count ≡ 0 → least ≡ 18446744073709551615 },
+    ghost greatest_of_none: { count ≡ 0 → greatest ≡ 0 },
 }
 
 impl Summary {
+    ghost use Rattle.std.specs.Prelude.{◌≤◌, ◌++◌, ◌∷◌, ◌==◌, [], ℕ, List, cond, None, Some, OnOk, OnErr, length};
+    ghost use Rattle.trace_stats.specs.Summaries.{IsSummaryOf, most_counted};
+
     /// Of no number.
     pub fn new() -> Summary
         ensures { IsSummaryOf [] result }
     {
         Summary {
             count: 0,
-            least: 0,
+            least: u64::MAX,
             greatest: 0,
             sum: 0,
             by_digits: [0; 65],
@@ -42,8 +45,8 @@ impl Summary {
         let Some(count) = self.count.checked_add(1) else {
             return Err(Full);
         };
-        self.least = lesser(self.count, self.least, number);
-        self.greatest = greater(self.count, self.greatest, number);
+        self.least = self.least.min(number);
+        self.greatest = self.greatest.max(number);
         self.count = count;
         // (so many numbers of 64 bits have a sum of 128)
         self.sum = self.sum.wrapping_add(u128::from(number));
@@ -94,31 +97,5 @@ impl Summary {
         ensures { result.now ≡ self.now.by_digits }
     {
         &self.by_digits
-    }
-}
-
-// The number, or the least of those before it where that is less.
-fn lesser(count: u64, least: u64, number: u64) -> u64
-    ensures below { result ≤ number }
-    ensures others { 0 < count → result ≤ least }
-    ensures which { (result ≡ number) ⊎ ((0 < count) × (result ≡ least)) }
-{
-    if count == 0 || number < least {
-        number
-    } else {
-        least
-    }
-}
-
-// The number, or the greatest of those before it where that is greater.
-fn greater(count: u64, greatest: u64, number: u64) -> u64
-    ensures above { number ≤ result }
-    ensures others { 0 < count → greatest ≤ result }
-    ensures which { (result ≡ number) ⊎ ((0 < count) × (result ≡ greatest)) }
-{
-    if count == 0 || greatest < number {
-        number
-    } else {
-        greatest
     }
 }
