@@ -2,3 +2,4 @@ pub mod CellLemmas
 pub mod FileLemmas
 pub mod ColumnLemmas
 pub mod ManifestLemmas
+pub mod LawLemmas

@@ -5,3 +5,4 @@ pub mod Files
 pub mod Tables
 pub mod parts
 pub mod Manifests
+pub mod Laws

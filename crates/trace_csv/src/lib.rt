@@ -5,6 +5,7 @@ pub mod cells;
 pub mod columns;
 pub mod files;
 pub mod kinds;
+pub mod laws;
 pub mod manifest;
 pub mod tables;
 #[cfg(test)]
