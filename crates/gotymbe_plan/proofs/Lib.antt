@@ -1,5 +1,6 @@
 pub mod EndingLemmas
 pub mod MergingLemmas
+pub mod MomentLemmas
 pub mod NumberLemmas
 pub mod ProgressLemmas
 pub mod StatisticsLemmas

@@ -10,7 +10,7 @@ use Rattle.trace_lines.specs.Dumps.{whole_status, no_header_status, stopped_stat
 use Rattle.trace_fronts.specs.declared.whole.Stop.{Stop}
 use Rattle.gotymbe_plan.specs.declared.ending.Ending.{Ending}
 use Rattle.gotymbe_plan.specs.declared.ending.Ending.TheVariants.{Whole, Stopped, OutOfMemory, Unread, Unwritten}
-use Rattle.gotymbe_plan.specs.declared.ending.Ending.TheVariants.{Unfinished, TooMuch, Dumped}
+use Rattle.gotymbe_plan.specs.declared.ending.Ending.TheVariants.{Unfinished, TooMuch, NoClock, Dumped}
 use Rattle.gotymbe_plan.specs.Numbers.{IsGrouped}
 
 -- the ending of a front with this stop, or of all bytes
@@ -73,6 +73,7 @@ HasStatus (Unwritten kind) status =
     (kind ≡ errors.BrokenPipe → status ≡ whole_status) × (kind ≢ errors.BrokenPipe → status ≡ failed_status)
 HasStatus (Unfinished place) status = status ≡ stopped_status
 HasStatus TooMuch status = status ≡ failed_status
+HasStatus NoClock status = status ≡ failed_status
 HasStatus (Dumped dump) status = status ≡ dump
 
 -- why no frame stands there
@@ -116,6 +117,7 @@ AppendsReason (Unread kind) old new = (said : List ℕ) × (new ≡ old ++ (code
 AppendsReason (Unwritten kind) old new = (said : List ℕ) × (new ≡ old ++ (codes "cannot be written: " ++ said))
 AppendsReason (Unfinished place) old new = AppendsUnfinished place old new
 AppendsReason TooMuch old new = new ≡ old ++ codes "adds up to more than 64 bits hold"
+AppendsReason NoClock old new = new ≡ old ++ codes "has no clock that dates can go by"
 AppendsReason (Dumped status) old new = new ≡ old ++ codes "stops where the last line of its dump tells"
 
 -- the line of a file: the program, the file and the reason, and a line feed

@@ -2,6 +2,7 @@ pub mod Endings
 pub mod Filters
 pub mod Following
 pub mod Merging
+pub mod Moments
 pub mod Numbers
 pub mod Outputs
 pub mod Progress

@@ -32,6 +32,8 @@ pub enum Ending {
     Unfinished(usize),
     /// A sum of what it holds would pass 2^64 - 1.
     TooMuch,
+    /// A date is asked for, and no clock says which dates its times are.
+    NoClock,
     /// It was dumped up to where it stops, with this status; the last line of the dump tells the place.
     Dumped(u8),
 }
@@ -97,6 +99,7 @@ fn is_place_alone(ending: Ending) -> bool
         Ending::Unread(_) => false,
         Ending::Unwritten(_) => false,
         Ending::TooMuch => false,
+        Ending::NoClock => false,
     }
 }
 
@@ -150,6 +153,7 @@ pub fn status_of(ending: Ending) -> u8
         }
         Ending::Unfinished(_) => STOPPED,
         Ending::TooMuch => FAILED,
+        Ending::NoClock => FAILED,
         Ending::Dumped(status) => status,
     }
 }
@@ -200,6 +204,7 @@ pub(crate) fn is_told(ending: Ending) -> bool
         Ending::Unread(_) => true,
         Ending::Unfinished(_) => true,
         Ending::TooMuch => true,
+        Ending::NoClock => true,
         Ending::Dumped(_) => true,
     }
 }
@@ -236,6 +241,7 @@ pub(crate) fn push_reason(out: &mut String, ending: Ending) -> Result<(), AllocE
         Ending::Unwritten(kind) => push_both(out, "cannot be written: ", error_text(kind)),
         Ending::Unfinished(place) => push_unfinished(out, place),
         Ending::TooMuch => out.push_str("adds up to more than 64 bits hold"),
+        Ending::NoClock => out.push_str("has no clock that dates can go by"),
         Ending::Dumped(_) => out.push_str("stops where the last line of its dump tells"),
     }
 }

@@ -7,6 +7,7 @@ pub mod filter;
 pub mod following;
 pub mod last_line;
 pub mod merging;
+pub mod moments;
 pub mod numbers;
 pub mod output;
 pub mod page;

@@ -1,5 +1,6 @@
 //! Showing what traces hold: checking, dumping, counting, and lines of JSON.
 
+use crate::clocks::zero_of;
 use crate::events::{EventLines, Form};
 use crate::input::{open, unread};
 use crate::output::Noted;
@@ -42,11 +43,11 @@ pub(crate) fn stats_of_all<W: TraceWrite + Drop>(
 ) -> Result<u8, AllocError> {
     let mut tally = Tally {
         stats: TraceStats::new(rt.alloc()),
-        picked: Picked::of(call),
+        picked: Picked::of(call, None),
     };
     let mut status = WHOLE;
     for name in call.asked.files.as_slice() {
-        tally.picked = Picked::of(call);
+        tally.picked = Picked::of(call, zero_of(rt, call, name));
         let ending = read_named(rt, call, name, &mut tally);
         status = status.max(tell(rt, name, ending)?);
     }
@@ -71,7 +72,7 @@ pub(crate) fn show_one<W: TraceWrite + Drop>(
     let mut lines = EventLines {
         alloc: rt.alloc(),
         form,
-        picked: Picked::of(call),
+        picked: Picked::of(call, zero_of(rt, call, name)),
         line: String::new(rt.alloc()),
         json: Vec::new(rt.alloc()),
         held: Vec::new(rt.alloc()),
