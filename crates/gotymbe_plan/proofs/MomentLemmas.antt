@@ -1,6 +1,6 @@
 -- Which times lie before and after moments.
-use Rattle.std.proofs.Common.{◌≡◌, ℕ, ◌<◌, ◌≤◌, ◌^◌, ℤ, pos, ◌+ℤ◌, ◌-ℤ◌, ◌<ℤ◌, ◌≤ℤ◌, ◌↔◌, Option, Some, None}
-use Rattle.std.proofs.Common.{IfSome, IsSomeAnd, arith, ap, sym, subst, refl}
+use Rattle.std.proofs.Common.{◌≡◌, ℕ, ◌<◌, ◌≤◌, ◌^◌, ℤ, pos, ◌+ℤ◌, ◌-ℤ◌, ◌≤ℤ◌, ◌↔◌, Option, Some, None}
+use Rattle.std.proofs.Common.{IfSome, IsSomeAnd, arith, ap, sym, subst, inl, inr}
 use Rattle.std.specs.Prelude.{unwrap_or}
 use Rattle.std.proofs.lemmas.Int.{ints}
 use Rattle.gotymbe_plan.specs.declared.filter.Filter.{Filter}
@@ -11,7 +11,7 @@ use Rattle.gotymbe_plan.specs.declared.moments.Bound.{Bound}
 use Rattle.gotymbe_plan.specs.declared.moments.Bound.TheVariants.{Early, At, Late}
 use Rattle.gotymbe_plan.specs.Filters.{IsInRange}
 use Rattle.gotymbe_plan.specs.Moments.{IsBoundOf, IsBoundBy, IsAfterBound, IsBeforeBound, IsBetween, IsFilterOf}
-use Rattle.gotymbe_plan.specs.Moments.{IsNotBefore, IsNotAfter, IsDate}
+use Rattle.gotymbe_plan.specs.Moments.{IsNotBefore, IsNotAfter, IsDate, IsAnyDate}
 
 -- the bound that an equation tells
 bound_told : (bound other : Bound) → Some bound ≡ Some other → bound ≡ other
@@ -20,7 +20,7 @@ bound_told bound other is = ap (λ (o : Option Bound). unwrap_or o other) is
 -- a time lies after the bound of a date where its own date does
 after_date :
     (date zero : ℤ) (bound : Bound) (time : ℕ) → IsBoundOf (date -ℤ zero) bound → time < 2 ^ 64 →
-    IsAfterBound bound time ↔ (date ≤ℤ zero +ℤ pos time)
+    IsAfterBound bound time ↔ (date ≤ℤ (zero +ℤ pos time))
 after_date date zero Early time lies small = (λ u. omega (arith, ints), λ le. tt)
 after_date date zero (At n) time lies small =
     let is = lies.0 in (λ le. omega (arith, ints), λ le. omega (arith, ints))
@@ -29,7 +29,7 @@ after_date date zero Late time lies small = (λ none. absurd none, λ le. omega 
 -- and before it
 before_date :
     (date zero : ℤ) (bound : Bound) (time : ℕ) → IsBoundOf (date -ℤ zero) bound → time < 2 ^ 64 →
-    IsBeforeBound bound time ↔ (zero +ℤ pos time ≤ℤ date)
+    IsBeforeBound bound time ↔ ((zero +ℤ pos time) ≤ℤ date)
 before_date date zero Early time lies small = (λ none. absurd none, λ le. omega (arith, ints))
 before_date date zero (At n) time lies small =
     let is = lies.0 in (λ le. omega (arith, ints), λ le. omega (arith, ints))
@@ -40,7 +40,7 @@ after_moment :
     (from : Option Moment) (zero : Option ℤ) (bound : Bound) (time : ℕ) → IsBoundBy from Early zero (Some bound) →
     time < 2 ^ 64 → IsAfterBound bound time ↔ IfSome from (λ m. IsNotBefore m zero time)
 after_moment None zero bound time lies small =
-    subst (λ (b : Bound). IsAfterBound b time ↔ IfSome {Moment} None (λ m. IsNotBefore m zero time))
+    subst (λ (b : Bound). IsAfterBound b time ↔ IfSome {T = Moment} None (λ m. IsNotBefore m zero time))
     (sym (bound_told bound Early lies)) (λ u. tt, λ u. tt)
 after_moment (Some (Time n)) zero bound time lies small =
     subst (λ (b : Bound). IsAfterBound b time ↔ (n ≤ time)) (sym (bound_told bound (At n) lies)) (λ le. le, λ le. le)
@@ -52,7 +52,7 @@ before_moment :
     (to : Option Moment) (zero : Option ℤ) (bound : Bound) (time : ℕ) → IsBoundBy to Late zero (Some bound) →
     time < 2 ^ 64 → IsBeforeBound bound time ↔ IfSome to (λ m. IsNotAfter m zero time)
 before_moment None zero bound time lies small =
-    subst (λ (b : Bound). IsBeforeBound b time ↔ IfSome {Moment} None (λ m. IsNotAfter m zero time))
+    subst (λ (b : Bound). IsBeforeBound b time ↔ IfSome {T = Moment} None (λ m. IsNotAfter m zero time))
     (sym (bound_told bound Late lies)) (λ u. tt, λ u. tt)
 before_moment (Some (Time n)) zero bound time lies small =
     subst (λ (b : Bound). IsBeforeBound b time ↔ (time ≤ n)) (sym (bound_told bound (At n) lies)) (λ le. le, λ le. le)
@@ -69,18 +69,26 @@ between_wanted wanted zero from to filter from_lies to_lies named between = reco
   times = λ time small.
       let inside = between time small in
       let after = after_moment wanted.from zero from time from_lies small in
-      let before = before_moment wanted.to zero to time to_lies small in
-      (
+      let before = before_moment wanted.to zero to time to_lies small in (
         λ within. (after.0 (inside.0 within).0, before.0 (inside.0 within).1),
         λ wished. inside.1 (after.1 wished.0, before.1 wished.1),
       );
 }
 
--- where no bound of a moment is told, it is a date and the clock is not known
-pub lacks_clock :
-    (moment : Option Moment) (end : Bound) (zero : Option ℤ) → IsBoundBy moment end zero None →
-    (zero ≡ None) × IsSomeAnd moment IsDate
-lacks_clock None end zero lies = absurd cc
-lacks_clock (Some (Time n)) end zero lies = absurd cc
-lacks_clock (Some (Date date)) end (Some z) lies = absurd lies
-lacks_clock (Some (Date date)) end None lies = (refl, tt)
+-- a moment whose bound is told is no date, where the clock is not known
+not_dated : (moment : Option Moment) (end bound : Bound) → IsBoundBy moment end None (Some bound) → ¬ IsSomeAnd moment IsDate
+not_dated None end bound lies dated = dated
+not_dated (Some (Time n)) end bound lies dated = dated
+not_dated (Some (Date date)) end bound lies dated = absurd cc
+
+-- where both bounds are told and the clock is not known no date is asked for
+pub no_date :
+    (from to : Option Moment) (zero : Option ℤ) (first last : Bound) → IsBoundBy from Early zero (Some first) →
+    IsBoundBy to Late zero (Some last) → zero ≡ None → ¬ IsAnyDate from to
+no_date from to zero first last from_lies to_lies unknown dated =
+    elim dated [
+      | inl from_dated ↦ not_dated from Early first
+          (subst (λ (z : Option ℤ). IsBoundBy from Early z (Some first)) unknown from_lies) from_dated
+      | inr to_dated ↦ not_dated to Late last
+          (subst (λ (z : Option ℤ). IsBoundBy to Late z (Some last)) unknown to_lies) to_dated
+    ]

@@ -1,6 +1,6 @@
 -- Times that are asked for.
 use Rattle.std.specs.Prelude.{◌≡◌, ◌⊎◌, ◌↔◌, ℕ, ◌<◌, ◌≤◌, ◌^◌, ℤ, pos, ◌-◌, ◌+ℤ◌, ◌-ℤ◌, ◌<ℤ◌, ◌≤ℤ◌, int_lt}
-use Rattle.std.specs.Prelude.{if◌then◌else◌, List, ◌++◌, codes, Option, Some, None, IfSome, IfNone, IsSome, IsSomeAnd}
+use Rattle.std.specs.Prelude.{if◌then◌else◌, List, ◌++◌, codes, Option, Some, None, IfSome, IsSome, IsSomeAnd}
 use Rattle.std.specs.Prelude.{Result, Ok, Err}
 use Rattle.std.specs.Str.Parse.{IsNumeral, digits_value, without_leading_plus}
 use Rattle.jiff.specs.Words.{parse_timestamp, Error}
@@ -106,13 +106,13 @@ IsBetween from to filter = (time : ℕ) → time < 2 ^ 64 →
 -- a time of a trace is not before a moment; its date is the clock's zero and the time
 abbrev pub IsNotBefore : Moment → Option ℤ → ℕ → Type 0
 IsNotBefore (Time n) zero time = n ≤ time
-IsNotBefore (Date date) (Some zero) time = date ≤ℤ zero +ℤ pos time
+IsNotBefore (Date date) (Some zero) time = date ≤ℤ (zero +ℤ pos time)
 IsNotBefore (Date date) None time = ⊥
 
 -- or not after it
 abbrev pub IsNotAfter : Moment → Option ℤ → ℕ → Type 0
 IsNotAfter (Time n) zero time = time ≤ n
-IsNotAfter (Date date) (Some zero) time = zero +ℤ pos time ≤ℤ date
+IsNotAfter (Date date) (Some zero) time = (zero +ℤ pos time) ≤ℤ date
 IsNotAfter (Date date) None time = ⊥
 
 -- the events that are asked for, in a trace whose clock stood so at its zero

@@ -68,8 +68,8 @@ pub fn moment_of(text: &str) -> Option<Moment>
 
 /// The time that is given, if one is; or the text that says none.
 pub fn moment_given(text: Option<&str>) -> Result<Option<Moment>, &str>
-    ensures given { IfOk result (IsMomentGiven (option_map (λ s. s.now) text)) }
-    ensures refused { IfErr result (λ s. option_map (λ s. s.now) text ≡ Some s.now) }
+    ensures given { IfOk result (IsMomentGiven (option_map (λ s. s.now) text.entry)) }
+    ensures refused { IfErr result (λ s. option_map (λ s. s.now) text.entry ≡ Some s.now) }
     ensures no_moment { IfErr result (λ s. SaysMoment s.now None) }
 {
     match text {
