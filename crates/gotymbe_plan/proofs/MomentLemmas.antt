@@ -61,8 +61,8 @@ before_moment (Some (Date date)) None bound time lies small = absurd cc
 
 -- the filter between the bounds of what is wanted has the times that are wanted
 pub between_wanted :
-    (wanted : Wanted) (zero : Option ℤ) (from to : Bound) (filter : Filter) → IsBoundBy wanted.from Early zero (Some from) →
-    IsBoundBy wanted.to Late zero (Some to) → filter.names ≡ wanted.names → IsBetween from to filter →
+    (wanted : Wanted) (zero : Option ℤ) (from to : Bound) (filter : Filter) →
+    IsBoundBy wanted.from Early zero (Some from) → IsBoundBy wanted.to Late zero (Some to) → filter.names ≡ wanted.names → IsBetween from to filter →
     IsFilterOf wanted zero filter
 between_wanted wanted zero from to filter from_lies to_lies named between = record {
   names = named;
@@ -76,7 +76,9 @@ between_wanted wanted zero from to filter from_lies to_lies named between = reco
 }
 
 -- a moment whose bound is told is no date, where the clock is not known
-not_dated : (moment : Option Moment) (end bound : Bound) → IsBoundBy moment end None (Some bound) → ¬ IsSomeAnd moment IsDate
+not_dated :
+    (moment : Option Moment) (end bound : Bound) → IsBoundBy moment end None (Some bound) →
+    ¬ IsSomeAnd moment IsDate
 not_dated None end bound lies dated = dated
 not_dated (Some (Time n)) end bound lies dated = dated
 not_dated (Some (Date date)) end bound lies dated = absurd cc
