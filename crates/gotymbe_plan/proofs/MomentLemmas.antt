@@ -62,8 +62,8 @@ before_moment (Some (Date date)) None bound time lies small = absurd cc
 -- the filter between the bounds of what is wanted has the times that are wanted
 pub between_wanted :
     (wanted : Wanted) (zero : Option ℤ) (from to : Bound) (filter : Filter) →
-    IsBoundBy wanted.from Early zero (Some from) → IsBoundBy wanted.to Late zero (Some to) → filter.names ≡ wanted.names → IsBetween from to filter →
-    IsFilterOf wanted zero filter
+    IsBoundBy wanted.from Early zero (Some from) → IsBoundBy wanted.to Late zero (Some to) →
+    filter.names ≡ wanted.names → IsBetween from to filter → IsFilterOf wanted zero filter
 between_wanted wanted zero from to filter from_lies to_lies named between = record {
   names = named;
   times = λ time small.

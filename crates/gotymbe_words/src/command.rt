@@ -146,7 +146,7 @@ fn chrome<'a>(alloc: Global) -> Result<Command<'a>, AllocError> {
     let chrome = Command::new(alloc, "chrome")
         .about("Writes the events of a trace in the format of Chrome's trace viewer")
         .after_help(
-            "Examples:\n  gotymbe chrome -o run.json run.trace\n  gotymbe chrome --event Poll --title Polls -o polls.json run.trace",
+            "Examples:\n  gotymbe chrome -o run.json run.trace\n  gotymbe chrome --title Day -o day.json run.trace",
         )
         .arg(file)?
         .arg(title)?;
