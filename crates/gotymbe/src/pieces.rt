@@ -108,6 +108,14 @@ impl<'n> Picked<'n> {
         Ok(Some(event))
     }
 
+    /// An ending where as many events were taken as are asked for: what comes after them is not waited for.
+    pub(crate) fn go_on(&self) -> Result<(), Ending> {
+        if self.left == 0 {
+            return Err(Ending::Whole);
+        }
+        Ok(())
+    }
+
     // Learns the clock that a frame says, where a date waits for one.
     fn learn(&mut self, frame: &DecodedFrame, decoder: &FeedDecoder) {
         if self.filter.is_none() {
@@ -138,7 +146,7 @@ impl FrameSink for Tally<'_> {
             return Ok(());
         };
         match self.stats.add_owned(&event, bytes) {
-            Ok(()) => Ok(()),
+            Ok(()) => self.picked.go_on(),
             Err(_) => Err(Ending::OutOfMemory),
         }
     }
