@@ -1,5 +1,7 @@
 -- Bytes that are appended, one part after another.
 use Rattle.std.proofs.Common.{◌≡◌, ℕ, ◌+◌, List, ◌++◌, replicate, Result, Ok, Err, OnOk, ap, ◌∙◌, append_assoc}
+use Rattle.std.proofs.Common.{if◌then◌else◌}
+use Rattle.std.specs.Result.{is_ok}
 use Rattle.std.specs.List.{flat_map}
 use Rattle.std.proofs.lemmas.List.{flat_map_more, replicate_more}
 
@@ -9,6 +11,12 @@ pub two_appended :
     OnOk r (new ≡ mid ++ b) → OnOk r (new ≡ old ++ (a ++ b))
 two_appended (Ok u) old a b new first e = e ∙ ap (λ (x : List ℕ). x ++ b) first ∙ append_assoc old a b
 two_appended (Err x) old a b new first e = tt
+
+-- what a call says of its answer
+pub when_ok :
+    {E : Type 0} (r : Result (Unit {0}) E) (new a b : List ℕ) → new ≡ (if is_ok r then a else b) → OnOk r (new ≡ a)
+when_ok (Ok u) new a b e = e
+when_ok (Err x) new a b e = tt
 
 -- one more of the same
 pub one_more :

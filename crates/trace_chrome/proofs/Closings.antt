@@ -6,7 +6,7 @@ use Rattle.std.proofs.lemmas.List.{take_more, length-take-le}
 use Rattle.std.proofs.lemmas.Grind.{flat_map-append}
 use Rattle.trace_chrome.specs.Tracks.{Track}
 use Rattle.trace_chrome.specs.Entries.{Entry, entry_text, entries_text, is_cut}
-use Rattle.trace_chrome.specs.Steps.{closings_from, closings}
+use Rattle.trace_chrome.specs.Slices.{closings_from, closings}
 
 abbrev cuts : ℕ → ℕ → Track → List Entry
 cuts at k t = replicate (length t.slices) (is_cut k at)

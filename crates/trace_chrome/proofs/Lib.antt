@@ -1,3 +1,12 @@
 mod Appending
 mod Closings
+mod CountLemmas
+mod CutLines
+mod FrameLemmas
+mod Nesting
+mod Numerals
+mod Spacing
 mod Taking
+mod Telling
+mod Texts
+mod Wholes

@@ -5,12 +5,16 @@ use Rattle.std.specs.List.{flat_map}
 use Rattle.std.proofs.lemmas.Grind.{flat_map-append}
 use Rattle.dial9_trace_format.specs.ShownEvents.{ShownEvent}
 use Rattle.trace_json.specs.EventJson.{IsEventJson}
-use Rattle.trace_json.specs.Lines.{IsLineOf}
-use Rattle.trace_chrome.specs.Labels.{What, begins, takes, what_of, track_name, event_name}
-use Rattle.trace_chrome.specs.Tracks.{Track, number_of, with_track, track_at}
+use Rattle.trace_json.specs.Lines.{IsLineOf, line_feed}
+use Rattle.trace_chrome.specs.Counters.{sums_of}
+use Rattle.trace_chrome.specs.Labels.{what_of, track_name, event_name}
+use Rattle.trace_chrome.specs.Slices.{What, begins, takes}
+use Rattle.trace_chrome.specs.Tracks.{Track, with_track, track_at}
 use Rattle.trace_chrome.specs.Entries.{Entry, entry_text, entries_text}
 use Rattle.trace_chrome.specs.Entries as entries
-use Rattle.trace_chrome.specs.Steps.{naming, own_by, tracks_by, first_by, Takes}
+use Rattle.trace_chrome.specs.Slices.{naming, own_by, tracks_by}
+use Rattle.trace_chrome.specs.Steps.{track_number, frame_of, frames_after, first_by, Takes}
+use Rattle.trace_chrome.specs.parts.Counts.{CountsAll}
 use Rattle.trace_chrome.specs.declared.trace.ChromeTrace.{ChromeTrace}
 
 -- texts of entries, one after another
@@ -23,41 +27,62 @@ entries_appended from es fs before after first e =
     e ∙ ap (λ (x : List ℕ). x ++ flat_map f fs) first ∙ append_assoc before (flat_map f es) (flat_map f fs)
     ∙ ap (λ (x : List ℕ). before ++ x) (sym (flat_map-append f es fs))
 
--- the line of an event, and what was made of the tracks and of the bytes so that its own track stands there
-pub record Placed (e : ShownEvent) (from : ℕ) (old ts : List Track) (before mid line : List ℕ) : Type 0 where
-  pub line_is : IsLineOf (IsEventJson e) line
+-- what was made of the tracks and of the bytes so that the event's own track stands there
+pub record Placed (e : ShownEvent) (from : ℕ) (old ts : List Track) (before mid : List ℕ) : Type 0 where
   pub tracks : ts ≡ with_track (track_name e) old
   pub text : mid ≡ before ++ entries_text from (naming (track_name e) e.time old)
 
--- the number of the track of an event
-abbrev pub number_for : ShownEvent → List Track → ℕ
-number_for e ts = number_of (track_name e) ts
+-- the JSON of an event, the number of the frame of its stack and the frames, and the times
+pub record Known (e : ShownEvent) (old new : ChromeTrace) (told : entries.Told) : Type 0 where
+  pub json_is : IsLineOf (IsEventJson e) (told.json ++ line_feed ∷ [])
+  pub frame : told.frame ≡ frame_of e old.frames.all.keys
+  pub frames : new.frames.all.keys ≡ frames_after e old.frames.all.keys
+  pub start : new.start ≡ Some (first_by old.start e.time)
+  pub last : new.last ≡ max old.last e.time
 
--- an event was taken where its track was found, its own entries appended, and the tracks made what they are after it
+-- its own entries were appended, and the tracks are what they are after it
+pub record Own
+    (e : ShownEvent) (from k : ℕ) (ts new : List Track) (told : entries.Told) (mid after : List ℕ)
+    : Type 0 where
+  pub tracks : new ≡ tracks_by (what_of e) k ts
+  pub text : after ≡ mid ++ entries_text from (own_by (what_of e) k (track_at ts k) e.time (event_name e) told)
+
+abbrev told_as : ℕ → List ℕ → entries.Told
+told_as frame json = record { frame = frame; json = json }
+
+-- an event was taken where its track was found, its own entries and those of its counters appended
 pub event_taken :
-    {E : Type 0} (r : Result (Unit {0}) E) (e : ShownEvent) (old new : ChromeTrace) (before : List ℕ) {mid : List ℕ}
-    (after : List ℕ) {line : List ℕ} {ts : List Track} →
-    (new.start ≡ Some (first_by old.start e.time)) × (new.last ≡ max old.last e.time) →
-    Placed e (first_by old.start e.time) old.tracks.items ts before mid line →
-    OnOk r (new.tracks.items ≡ tracks_by (what_of e) (number_for e old.tracks.items) ts) →
-    OnOk r (after ≡ mid ++ entries_text (first_by old.start e.time) (own_by (what_of e)
-    (number_for e old.tracks.items) (track_at ts (number_for e old.tracks.items)) e.time (event_name e) line)) →
+    {E : Type 0} (r : Result (Unit {0}) E) {e : ShownEvent} {old new : ChromeTrace} (before after : List ℕ)
+    {mid own : List ℕ} {told : entries.Told} {ts : List Track} →
+    Known e old new told → Placed e (first_by old.start e.time) old.tracks.items ts before mid →
+    Own e (first_by old.start e.time) (track_number e old.tracks.items) ts new.tracks.items told mid own →
+    OnOk r (new.sums.items ≡ sums_of e (track_number e old.tracks.items) old.sums.items) →
+    OnOk r (CountsAll e (track_number e old.tracks.items) e.time (first_by old.start e.time) old.sums.items own after) →
     OnOk r (Takes e old new before after)
-event_taken (Ok u) e old new before {mid} after {line} {ts} times placed tracks text =
-    let k = number_for e old.tracks.items in
+event_taken (Ok u) {e} {old} {new} before after {mid} {own} {told} {ts} t p o sums counts =
+    let k = track_number e old.tracks.items in
     let from = first_by old.start e.time in
-    let own = λ (x : List Track). own_by (what_of e) k (track_at x k) e.time (event_name e) line in
+    let seen = told_as (frame_of e old.frames.all.keys) told.json in
+    let named = naming (track_name e) e.time old.tracks.items in
+    let owns = λ (x : List Track) (y : entries.Told). own_by (what_of e) k (track_at x k) e.time (event_name e) y in
+    let placed = with_track (track_name e) old.tracks.items in
+    let own_text : own ≡ mid ++ entries_text from (owns placed seen) =
+    o.text ∙ ap (λ (x : List Track). mid ++ entries_text from (owns x told)) p.tracks
+    ∙ ap (λ (n : ℕ). mid ++ entries_text from (owns placed (told_as n told.json))) t.frame in
     record {
-      line = line;
-      line_is = placed.line_is;
-      start = times.0;
-      last = times.1;
-      tracks = tracks ∙ ap (tracks_by (what_of e) k) placed.tracks;
-      text = entries_appended from (naming (track_name e) e.time old.tracks.items)
-          (own (with_track (track_name e) old.tracks.items)) before after placed.text
-          (text ∙ ap (λ (x : List Track). mid ++ entries_text from (own x)) placed.tracks);
+      json = told.json;
+      json_is = t.json_is;
+      counts = counts.entries;
+      counts_are = counts.are_so;
+      start = t.start;
+      last = t.last;
+      tracks = o.tracks ∙ ap (tracks_by (what_of e) k) p.tracks;
+      frames = t.frames;
+      sums = sums;
+      text = entries_appended from (named ++ owns placed seen) counts.entries before after
+          (entries_appended from named (owns placed seen) before own p.text own_text) counts.text;
     }
-event_taken (Err x) e old new before after times placed tracks text = tt
+event_taken (Err x) before after t p o sums counts = tt
 
 -- the text of one entry
 one_entry :
@@ -85,14 +110,14 @@ own_entry (Err y) from x es old new is e = tt
 
 -- that of a slice that begins
 pub begun_entry :
-    {w : What} {name text : List ℕ} (group : List ℕ) (k : ℕ) (t : Track) (at : ℕ) (line : List ℕ) → begins group ≡ w →
-    text ≡ name → entries.begins k at text line ∷ [] ≡ own_by w k t at name line
-begun_entry {w} {name} group k t at line is same =
-    ap (λ (x : List ℕ). entries.begins k at x line ∷ []) same ∙ ap (λ (x : What). own_by x k t at name line) is
+    {w : What} {name text : List ℕ} (group : List ℕ) (k : ℕ) (t : Track) (at : ℕ) (told : entries.Told) →
+    begins group ≡ w → text ≡ name → entries.begins k at text told ∷ [] ≡ own_by w k t at name told
+begun_entry {w} {name} group k t at told is same =
+    ap (λ (x : List ℕ). entries.begins k at x told ∷ []) same ∙ ap (λ (x : What). own_by x k t at name told) is
 
 -- that of a slice with a length
 pub long_entry :
-    {w : What} {name text : List ℕ} (n k : ℕ) (t : Track) (at : ℕ) (line : List ℕ) → takes n ≡ w →
-    text ≡ name → entries.takes k at n text line ∷ [] ≡ own_by w k t at name line
-long_entry {w} {name} n k t at line is same =
-    ap (λ (x : List ℕ). entries.takes k at n x line ∷ []) same ∙ ap (λ (x : What). own_by x k t at name line) is
+    {w : What} {name text : List ℕ} (n k : ℕ) (t : Track) (at : ℕ) (told : entries.Told) → takes n ≡ w →
+    text ≡ name → entries.takes k at n text told ∷ [] ≡ own_by w k t at name told
+long_entry {w} {name} n k t at told is same =
+    ap (λ (x : List ℕ). entries.takes k at n x told ∷ []) same ∙ ap (λ (x : What). own_by x k t at name told) is

@@ -11,6 +11,7 @@ use Rattle.trace_wire.specs.Schemas.{Entry}
 use Rattle.dial9_trace_format.specs.ShownEvents.{ShownEvent}
 use Rattle.trace_roles.specs.Roles.{of_schema, note_of, field_with_role, track_of}
 use Rattle.trace_roles.specs.Units.{nanoseconds_in}
+use Rattle.trace_chrome.specs.Slices.{What, begins, ends, takes, happens}
 
 -- ---- texts
 
@@ -62,13 +63,6 @@ is_unknown_by strings None = false
 -- nobody knows on which track the event lies
 abbrev pub lies_nowhere : ShownEvent → Bool
 lies_nowhere e = is_unknown_by e.pools.strings (value_at e (track_of e.entry))
-
--- it begins a slice of a group, ends one, is one of so many nanoseconds, or happens at its time
-pub data What : Type 0 where
-  begins : List ℕ → What
-  ends : List ℕ → What
-  takes : ℕ → What
-  happens : What
 
 -- a number, where it is not below 0, and else 0
 abbrev pub natural_in : ℤ → ℕ

@@ -1,6 +1,12 @@
 pub mod Times
 pub mod Labels
 pub mod Tracks
+pub mod Frames
 pub mod Entries
+pub mod Slices
+pub mod Counters
 pub mod Steps
+pub mod Trees
+pub mod Viewers
+pub mod Laws
 pub mod parts

@@ -1,77 +1,71 @@
 -- What an event makes of what stood before it.
-use Rattle.std.specs.Prelude.{◌≡◌, ℕ, List, [], ◌∷◌, ◌++◌, Option, Some, None, codes, replicate, length, max, ◌+◌}
-use Rattle.std.specs.Prelude.{slice_set}
+use Rattle.std.specs.Prelude.{◌≡◌, ℕ, List, [], ◌∷◌, ◌++◌, Option, Some, None, max}
 use Rattle.std.specs.Option.{unwrap_or}
 use Rattle.dial9_trace_format.specs.ShownEvents.{ShownEvent}
 use Rattle.trace_json.specs.EventJson.{IsEventJson}
-use Rattle.trace_json.specs.Lines.{IsLineOf}
-use Rattle.trace_chrome.specs.Labels.{What, begins, ends, takes, happens, what_of, track_name, event_name}
-use Rattle.trace_chrome.specs.Tracks.{Track, track_at, place_of, number_of, with_track, inside_of, begun, ended}
-use Rattle.trace_chrome.specs.Entries.{Entry, entries_text}
-use Rattle.trace_chrome.specs.Entries as entries
+use Rattle.trace_json.specs.Lines.{IsLineOf, line_feed}
+use Rattle.trace_folded.specs.Stacks.{first_stack}
+use Rattle.trace_chrome.specs.Labels.{what_of, track_name, event_name}
+use Rattle.trace_chrome.specs.Tracks.{Track, track_at, number_of, with_track}
+use Rattle.trace_chrome.specs.Slices.{naming, own_by, tracks_by}
+use Rattle.trace_chrome.specs.Frames.{Frame, with_stack, number_of_stack}
+use Rattle.trace_chrome.specs.Counters.{AreCounts, sums_of}
+use Rattle.trace_chrome.specs.Entries.{Told, Entry, entries_text}
 use Rattle.trace_chrome.specs.declared.trace.ChromeTrace.{ChromeTrace}
 
 -- ---- the entries of an event
 
--- the entry of a track of a number that stands somewhere or nowhere yet
-abbrev pub naming_by : Option ℕ → ℕ → ℕ → List ℕ → List Entry
-naming_by (Some i) track at name = []
-naming_by None track at name = entries.names track at name ∷ []
+-- the number of the track of an event
+abbrev pub track_number : ShownEvent → List Track → ℕ
+track_number e ts = number_of (track_name e) ts
 
--- the entry of a track that is new
-abbrev pub naming : List ℕ → ℕ → List Track → List Entry
-naming name at ts = naming_by (place_of name ts) (number_of name ts) at name
-
--- an end: it ends so many slices inside the one of its group too; where none is open it happens
-abbrev pub ends_by : Option ℕ → ℕ → ℕ → List ℕ → List ℕ → List Entry
-ends_by (Some n) track at group line = replicate n (entries.is_cut track at) ++ entries.ends track at line ∷ []
-ends_by None track at group line = entries.happens track at (codes "end " ++ group) line ∷ []
-
--- the entries of an event on a track, by what it is
-abbrev pub own_by : What → ℕ → Track → ℕ → List ℕ → List ℕ → List Entry
-own_by (begins group) track t at name line = entries.begins track at name line ∷ []
-own_by (ends group) track t at name line = ends_by (inside_of group t.slices) track at group line
-own_by (takes n) track t at name line = entries.takes track at n name line ∷ []
-own_by happens track t at name line = entries.happens track at name line ∷ []
-
--- the entries of an event whose line of JSON this is: the name of its track where that is new, and its own
-abbrev pub entries_of : List ℕ → ShownEvent → List Track → List Entry
-entries_of line e ts =
+-- the entries of an event but for its counters: the name of its track where that is new, and its own
+abbrev pub entries_of : Told → ShownEvent → List Track → List Entry
+entries_of told e ts =
     naming (track_name e) e.time ts
-    ++ own_by (what_of e) (number_of (track_name e) ts)
-    (track_at (with_track (track_name e) ts) (number_of (track_name e) ts)) e.time (event_name e) line
+    ++ own_by (what_of e) (track_number e ts) (track_at (with_track (track_name e) ts) (track_number e ts)) e.time
+    (event_name e) told
+
+-- ---- stacks
+
+-- the frames after a stack, where there is one, and the number of the frame of its innermost address
+abbrev pub frames_by : Option (List ℕ) → List Frame → List Frame
+frames_by (Some stack) fs = with_stack stack fs
+frames_by None fs = fs
+
+abbrev pub frame_by : Option (List ℕ) → List Frame → ℕ
+frame_by (Some stack) fs = number_of_stack stack fs
+frame_by None fs = 0
+
+-- the same for the first stack among the values of an event
+abbrev pub frames_after : ShownEvent → List Frame → List Frame
+frames_after e fs = frames_by (first_stack e.pools.stacks e.values) fs
+
+abbrev pub frame_of : ShownEvent → List Frame → ℕ
+frame_of e fs = frame_by (first_stack e.pools.stacks e.values) fs
 
 -- ---- what stands after it
 
--- the tracks after an event on one of them, by what it is
-abbrev pub tracks_by : What → ℕ → List Track → List Track
-tracks_by (begins group) k ts = slice_set ts k (begun group (track_at ts k))
-tracks_by (ends group) k ts = slice_set ts k (ended group (track_at ts k))
-tracks_by (takes n) k ts = ts
-tracks_by happens k ts = ts
-
 -- the tracks after an event
 abbrev pub tracks_after : ShownEvent → List Track → List Track
-tracks_after e ts = tracks_by (what_of e) (number_of (track_name e) ts) (with_track (track_name e) ts)
+tracks_after e ts = tracks_by (what_of e) (track_number e ts) (with_track (track_name e) ts)
 
 -- the first time, that of the first event, where this one is a later one
 abbrev pub first_by : Option ℕ → ℕ → ℕ
 first_by start at = unwrap_or start at
 
--- the ends of the slices that are open on tracks, whose numbers go on from one
-abbrev pub closings_from : ℕ → ℕ → List Track → List Entry
-closings_from at k [] = []
-closings_from at k (t ∷ ts) = replicate (length t.slices) (entries.is_cut k at) ++ closings_from at (k + 1) ts
-
--- the ends of all slices that are open
-abbrev pub closings : ℕ → List Track → List Entry
-closings at ts = closings_from at 0 ts
-
--- an event was taken: its entries were appended
+-- An event was taken: its entries were appended, and last those of its counters. Its own tells its JSON, which has a
+-- line feed after it in its line.
 pub record Takes (e : ShownEvent) (old new : ChromeTrace) (earlier bytes : List ℕ) : Type 0 where
-  pub line : List ℕ
-  pub line_is : IsLineOf (IsEventJson e) line
+  pub json : List ℕ
+  pub json_is : IsLineOf (IsEventJson e) (json ++ line_feed ∷ [])
+  pub counts : List Entry
+  pub counts_are : AreCounts e (track_number e old.tracks.items) e.time old.sums.items counts
   pub start : new.start ≡ Some (first_by old.start e.time)
   pub last : new.last ≡ max old.last e.time
   pub tracks : new.tracks.items ≡ tracks_after e old.tracks.items
-  pub text : bytes ≡ earlier ++ entries_text (first_by old.start e.time) (entries_of line e old.tracks.items)
+  pub frames : new.frames.all.keys ≡ frames_after e old.frames.all.keys
+  pub sums : new.sums.items ≡ sums_of e (track_number e old.tracks.items) old.sums.items
+  pub text :
+      bytes ≡ earlier ++ entries_text (first_by old.start e.time) (entries_of
+      (record { frame = frame_of e old.frames.all.keys; json = json }) e old.tracks.items ++ counts)

@@ -6,5 +6,5 @@ use Rattle.trace_chrome.proofs.entries.push_head.Goals as goal
 pub returns : goal.returns
 returns c =
     two_appended c.push_last_name.result c.args.out.now.items
-    (codes "{\"traceEvents\":[{\"ph\":\"M\",\"pid\":1,\"name\":\"process_name\",\"args\":{\"name\":")
-    (quoted c.args.name.now ++ codes "}}\n") _ c.in_ok-extend_from_slice.ensures.items c.push_last_name.ensures
+    (codes "{\"traceEvents\":[\n{\"ph\":\"M\",\"pid\":1,\"name\":\"process_name\",\"args\":{\"name\":")
+    (quoted c.args.name.now ++ codes "}}") _ c.in_ok-extend_from_slice.ensures.items c.push_last_name.ensures

@@ -7,4 +7,4 @@ pub returns : goal.returns
 returns c =
     two_appended c.push_last_name.result c.args.out.now.items
     (codes ",\"name\":\"thread_name\",\"args\":{\"name\":")
-    (quoted c.args.name.now ++ codes "}}\n") _ c.in_ok-extend_from_slice.ensures.items c.push_last_name.ensures
+    (quoted c.args.name.now ++ codes "}}") _ c.in_ok-extend_from_slice.ensures.items c.push_last_name.ensures

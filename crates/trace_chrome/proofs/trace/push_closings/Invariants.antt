@@ -1,6 +1,6 @@
 use Rattle.std.proofs.Common.{◌≡◌, ◌++◌, take}
 use Rattle.trace_chrome.specs.Entries.{entries_text}
-use Rattle.trace_chrome.specs.Steps.{closings}
+use Rattle.trace_chrome.specs.Slices.{closings}
 use Rattle.trace_chrome.proofs.trace.push_closings.Given as goal
 
 abbrev pub invariant-tracks : goal.invariant-tracks

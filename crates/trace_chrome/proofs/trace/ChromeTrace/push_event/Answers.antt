@@ -1,8 +1,7 @@
 use Rattle.std.proofs.Common.{◌≡◌, Some, ap, rules}
 use Rattle.trace_events.specs.OwnedEvents.{owned_event}
 use Rattle.trace_chrome.specs.Labels.{track_name}
-use Rattle.trace_chrome.specs.Tracks.{number_of}
-use Rattle.trace_chrome.specs.Steps.{first_by}
+use Rattle.trace_chrome.specs.Steps.{first_by, track_number}
 use Rattle.trace_chrome.proofs.Taking.{event_taken}
 use Rattle.trace_chrome.proofs.trace.ChromeTrace.push_event.Goals as goal
 
@@ -14,13 +13,20 @@ returns c =
     let from_is : c.first_time-from.result ≡ first_by old.start e.time = search rules in
     let placed = c.in_ok-spot.ensures in
     let spot_is : c.in_ok-spot.spot
-    ≡ record { track = number_of (track_name e) old.tracks.items; from = first_by old.start e.time; at = e.time } =
+    ≡ record { track = track_number e old.tracks.items; from = first_by old.start e.time; at = e.time } =
     rw (name_is, from_is) at placed.spot in
-    let line_same : c.deref.result.now ≡ c.in_ok-line.line.items = search rules in
-    event_taken c.push_own.result e old _ c.args.out.now.items _ (ap Some from_is, search rules)
+    let json_same : c.deref.result.now ≡ c.in_ok-json.json.items = search rules in
+    event_taken c.push_counters.result c.args.out.now.items _
     (record {
-      line_is = c.in_ok-line.ensures;
-      tracks = rw name_is at placed.tracks;
-      text = rw (name_is, from_is) at placed.text;
+      json_is = rw (← json_same) at c.in_ok-json.ensures;
+      frame = c.in_ok-frame.ensures.number;
+      frames = c.in_ok-frame.ensures.frames;
+      start = ap Some from_is;
+      last = search rules;
     })
-    (rw spot_is at c.push_own.ensures.tracks) (rw (spot_is, line_same) at c.push_own.ensures.text)
+    (record { tracks = rw name_is at placed.tracks; text = rw (name_is, from_is) at placed.text })
+    (record {
+      tracks = rw spot_is at c.in_ok-push_own.ensures.tracks;
+      text = rw spot_is at c.in_ok-push_own.ensures.text;
+    })
+    (rw spot_is at c.push_counters.ensures.sums) (rw spot_is at c.push_counters.ensures.text)

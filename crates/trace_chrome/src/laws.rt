@@ -1,0 +1,19 @@
+//! What holds of the entries of traces, and of their texts.
+
+ghost use Rattle.trace_chrome.specs.Laws.{IsToldOnce, SlicesNest};
+ghost use Rattle.trace_chrome.specs.Trees.{TextReadsBack};
+
+/// The entries of an event tell it once.
+pub fn told_once()
+    ensures { IsToldOnce }
+{}
+
+/// Over any events and the tail no slice ends where none is open, and each that begins ends.
+pub fn slices_nest()
+    ensures { SlicesNest }
+{}
+
+/// The text from the head over any entries to the tail is a line of JSON that is read back as the tree of these.
+pub fn reads_back()
+    ensures { TextReadsBack }
+{}
