@@ -61,11 +61,17 @@ LiesAt (Time time) zero bound = bound ≡ Some (At time)
 LiesAt (Date date) (Some zero) bound = IsSomeAnd bound (IsBoundOf (date -ℤ zero))
 LiesAt (Date date) None bound = bound ≡ None
 
+-- that a text says no time
+abbrev pub no_time_text : List ℕ → List ℕ
+no_time_text text = codes "error: '" ++ text ++ codes "' says no time for --"
+
+-- what an option takes
+abbrev pub wished_text : List ℕ → List ℕ
+wished_text option = option ++ codes ": a number of nanoseconds, or a date as 2025-11-28T12:00:00Z\n"
+
 -- what is told of a text that says no time
 abbrev pub no_moment_text : List ℕ → List ℕ → List ℕ
-no_moment_text option text =
-    codes "error: '" ++ text ++ codes "' says no time for --" ++ option
-    ++ codes ": a number of nanoseconds, or a date as 2025-11-28T12:00:00Z\n"
+no_moment_text option text = no_time_text text ++ wished_text option
 
 -- ---- which events are asked for
 

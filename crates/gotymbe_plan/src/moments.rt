@@ -3,7 +3,7 @@
 ghost use Rattle.std.specs.Prelude.{◌≡◌, ◌-ℤ◌, ◌↔◌, IsTrue, Some, None, option_map, IfOk, IfErr};
 ghost use Rattle.trace_lines.specs.Appending.{AppendsText};
 ghost use Rattle.gotymbe_plan.specs.Moments.{SaysMoment, IsMomentGiven, date_said, IsDate, IsAnyDate};
-ghost use Rattle.gotymbe_plan.specs.Moments.{IsBoundOf, far_end, LiesAt, no_moment_text};
+ghost use Rattle.gotymbe_plan.specs.Moments.{IsBoundOf, far_end, LiesAt, no_moment_text, no_time_text, wished_text};
 
 use jiff::Timestamp;
 use std::alloc::AllocError;
@@ -122,8 +122,23 @@ fn far_end(time: i128) -> Bound
 pub fn push_no_moment(out: &mut String, option: &str, text: &str) -> Result<(), AllocError>
     ensures { AppendsText (no_moment_text option.now text.now) out.old out.new result }
 {
-    write!(
-        out,
-        "error: '{text}' says no time for --{option}: a number of nanoseconds, or a date as 2025-11-28T12:00:00Z\n"
-    )
+    push_no_time(out, text)?;
+    push_wished(out, option)
+}
+
+// Appends that a text says no time.
+fn push_no_time(out: &mut String, text: &str) -> Result<(), AllocError>
+    ensures { AppendsText (no_time_text text.now) out.old out.new result }
+{
+    out.push_str("error: '")?;
+    out.push_str(text)?;
+    out.push_str("' says no time for --")
+}
+
+// Appends what an option takes.
+fn push_wished(out: &mut String, option: &str) -> Result<(), AllocError>
+    ensures { AppendsText (wished_text option.now) out.old out.new result }
+{
+    out.push_str(option)?;
+    out.push_str(": a number of nanoseconds, or a date as 2025-11-28T12:00:00Z\n")
 }
