@@ -1,6 +1,7 @@
 -- Which times lie before and after moments.
 use Rattle.std.proofs.Common.{◌≡◌, ℕ, ◌<◌, ◌≤◌, ◌^◌, ℤ, pos, ◌+ℤ◌, ◌-ℤ◌, ◌≤ℤ◌, ◌↔◌, Option, Some, None}
-use Rattle.std.proofs.Common.{IfSome, IsSomeAnd, arith, ap, sym, subst, inl, inr}
+use Rattle.std.proofs.Common.{IfSome, IsSomeAnd, arith, ap, sym, subst, inl, inr, List, ◌++◌, codes, Result, Ok, Err}
+use Rattle.std.proofs.Common.{OnOk, ◌∙◌, append_assoc, is_ok, if◌then◌else◌}
 use Rattle.std.specs.Prelude.{unwrap_or}
 use Rattle.std.proofs.lemmas.Int.{ints}
 use Rattle.gotymbe_plan.specs.declared.filter.Filter.{Filter}
@@ -11,7 +12,7 @@ use Rattle.gotymbe_plan.specs.declared.moments.Bound.{Bound}
 use Rattle.gotymbe_plan.specs.declared.moments.Bound.TheVariants.{Early, At, Late}
 use Rattle.gotymbe_plan.specs.Filters.{IsInRange}
 use Rattle.gotymbe_plan.specs.Moments.{IsBoundOf, IsBoundBy, IsAfterBound, IsBeforeBound, IsBetween, IsFilterOf}
-use Rattle.gotymbe_plan.specs.Moments.{IsNotBefore, IsNotAfter, IsDate, IsAnyDate}
+use Rattle.gotymbe_plan.specs.Moments.{IsNotBefore, IsNotAfter, IsDate, IsAnyDate, no_time_text}
 
 -- the bound that an equation tells
 bound_told : (bound other : Bound) → Some bound ≡ Some other → bound ≡ other
@@ -94,3 +95,21 @@ no_date from to zero first last from_lies to_lies unknown dated =
       | inr to_dated ↦ not_dated to Late last
           (subst (λ (z : Option ℤ). IsBoundBy to Late z (Some last)) unknown to_lies) to_dated
     ]
+
+-- what is appended where that did not fail
+pub appended_if_ok :
+    {E : Type 0} (old new text : List ℕ) (r : Result (Unit {0}) E) →
+    new ≡ (if is_ok r then old ++ text else old) → OnOk r (new ≡ old ++ text)
+appended_if_ok old new text (Ok u) is = is
+appended_if_ok old new text (Err e) is = tt
+
+-- a text after what begins, and what ends it, say that it says no time
+pub no_time_appended :
+    {E : Type 0} (text old a b new : List ℕ) (r : Result (Unit {0}) E) → a ≡ old ++ codes "error: '" → b ≡ a ++ text →
+    OnOk r (new ≡ b ++ codes "' says no time for --") → OnOk r (new ≡ old ++ no_time_text text)
+no_time_appended text old a b new (Err e) begins told is = is
+no_time_appended text old a b new (Ok u) begins told is =
+    let front = codes "error: '" in
+    let last = codes "' says no time for --" in
+    is ∙ ap (λ (x : List ℕ). x ++ last) (told ∙ ap (λ (x : List ℕ). x ++ text) begins ∙ append_assoc old front text)
+    ∙ append_assoc old (front ++ text) last
