@@ -1,5 +1,7 @@
 //! Traces written by hand after docs/FORMAT.md, and what their events add up to, worked out by hand.
 
+mod ample;
+
 use crate::schema::SchemaStats;
 use crate::summary::Summary;
 use crate::trace::TraceStats;
