@@ -1,5 +1,7 @@
 //! Traces written by hand after docs/FORMAT.md, and their tables as Python's `csv` and `json` write them.
 
+mod ample;
+
 use crate::cells::{put_event, put_owned_event};
 use crate::columns::put_columns;
 use crate::files::table_name;
