@@ -38,9 +38,9 @@ impl<W: TraceWrite> FrameSink for Entries<'_, '_, W> {
         };
         held(self.trace.push_event(&mut self.held, &event))?;
         if self.held.len() >= ENOUGH {
-            return self.settle();
+            self.settle()?;
         }
-        Ok(())
+        self.picked.go_on()
     }
 
     fn settle(&mut self) -> Result<(), Ending> {
@@ -63,15 +63,17 @@ pub(crate) fn chart_one<W: TraceWrite + Drop>(
     name: &str,
     out: &mut Noted<W>,
 ) -> Ending {
-    let mut entries = Entries {
-        trace: ChromeTrace::new(rt.alloc()),
-        picked: Picked::of(call, zero_of(rt, call, name)),
-        held: Vec::new(rt.alloc()),
-        out,
-    };
+    let trace = ChromeTrace::new(rt.alloc());
+    let mut held = Vec::new(rt.alloc());
     let title = title_of(call.asked.title, &call.asked.files);
-    if entries.trace.push_head(&mut entries.held, title).is_err() {
+    if trace.push_head(&mut held, title).is_err() {
         return Ending::OutOfMemory;
     }
+    let mut entries = Entries {
+        trace,
+        picked: Picked::of(call, zero_of(rt, call, name)),
+        held,
+        out,
+    };
     read_named(rt, call, name, &mut entries)
 }
