@@ -2,3 +2,10 @@ pub mod EscapedStrings
 pub mod EscapedNumbers
 pub mod EscapedText
 pub mod SentPieces
+pub mod Chains
+pub mod Growing
+pub mod Named
+pub mod MoreStand
+pub mod Counted
+pub mod Assembled
+pub mod Floats

@@ -1,48 +1,35 @@
 //! The data of a page.
 
-ghost use Rattle.std.specs.Prelude.{◌≡◌, ◌<◌, [], length, IfOk, IfSome};
+ghost use Rattle.std.specs.Prelude.{◌≡◌, ◌<◌, ◌++◌, ◌∷◌, [], List, IfOk, IfSome, IfNone, IsErr, OnErr, OnOk};
+ghost use Rattle.std.specs.Prelude.{codes, length, map as list_map, option_map, position};
+ghost use Rattle.trace_wire.specs.Schemas.{same_entry};
+ghost use Rattle.trace_events.specs.OwnedEvents.{owned_event};
+ghost use Rattle.trace_json.specs.EventJson.{list_json};
+ghost use Rattle.trace_json.specs.parts.Put.{PutsTokens};
 ghost use Rattle.trace_page.specs.Escaping.{IsPrinted};
+ghost use Rattle.trace_page.specs.Pages.{IsPageText};
+ghost use Rattle.trace_page.specs.Counting.{PageEvent, IsPlaceOf, LacksEntry, HasMoreBytes, CountsAt};
+ghost use Rattle.trace_page.specs.Holding.{Holds, IsSpoiled, head_tokens, tables_of};
+ghost use Rattle.trace_page.specs.PageSchemas.{schema_json, zero_json};
+ghost use Rattle.trace_page.specs.parts.Assembling.{columns_end, PutsLists, last_tokens};
+ghost use Rattle.trace_page.specs.parts.Writing.{Grows, PutsMember};
 
 use crate::columns::{put_indexes, put_stacks, put_strings, put_times, start_of};
+pub use crate::held::PageData;
 use crate::names::Names;
-use crate::schemas::{put_schema, put_text_member};
+use crate::schemas::{PageSchema, put_each_schema, put_text_member, zero_of};
 use crate::values::put_values;
 use json::Writer;
 use std::alloc::{AllocError, Global};
 use trace_events::event::OwnedEvent;
-use trace_roles::clock::clock_of;
 use trace_values::tri;
 use trace_wire::schema::{SchemaEntry, WireTypeId};
 
-// How many places of schemas are looked at first, by wire id.
-const GUESSES: usize = 256;
-
-/// A schema, and how many bytes its events have.
-#[derive(Drop)]
-struct PageSchema {
-    entry: SchemaEntry,
-    bytes: u64,
-}
-
-/// The data of a page that is told events (viewer/DATA.md).
-#[derive(Drop)]
-pub struct PageData {
-    alloc: Global,
-    names: Names,
-    // what comes before the values of the events, and these
-    text: Writer,
-    times: Vec<u64>,
-    // where the schema of each event stands
-    places: Vec<usize>,
-    schemas: Vec<PageSchema>,
-    // where the schema of an event with such a wire id stood last
-    guesses: [usize; 256],
-    ghost starts: { text.before ≡ [] },
-}
-
 impl PageData {
     /// Of no event. `AllocError` where a growth was refused.
-    pub fn new(alloc: Global) -> Result<PageData, AllocError> {
+    pub fn new(alloc: Global) -> Result<PageData, AllocError>
+        ensures { IfOk result (λ d. Holds d []) }
+    {
         let mut text = Writer::new(Vec::new(alloc));
         put_head(&mut text)?;
         Ok(PageData {
@@ -52,14 +39,27 @@ impl PageData {
             times: Vec::new(alloc),
             places: Vec::new(alloc),
             schemas: Vec::new(alloc),
-            guesses: [0; GUESSES],
+            guesses: [0; 256],
+            is_whole: true,
         })
     }
 
-    /// Takes an event of so many bytes. `AllocError` where a growth was refused: then the data is good for nothing.
-    pub fn add(&mut self, event: &OwnedEvent<'_>, bytes: u64) -> Result<(), AllocError> {
-        let place = self.place_for(event.type_id, event.schema)?;
-        self.schemas[place].bytes = self.schemas[place].bytes.saturating_add(bytes);
+    /// Takes an event of so many bytes. `AllocError` where a growth was refused: then the data is spoiled, and each
+    /// later call answers `AllocError` too.
+    pub fn add(&mut self, event: &OwnedEvent<'_>, bytes: u64) -> Result<(), AllocError>
+        ensures added { OnOk result ((events : List PageEvent) → Holds self.old events → Holds
+            self.new (events ++ record { shown = owned_event event.now; bytes = bytes } ∷ [])) }
+        ensures spoiled { OnErr result (IsSpoiled self.new) }
+        ensures refused { IsSpoiled self.old → IsErr result }
+    {
+        if !self.is_whole {
+            return Err(AllocError);
+        }
+        self.is_whole = false;
+        let guess = guess_of(event.type_id);
+        let first = self.guesses[guess];
+        let place = count_in(self.alloc, &mut self.schemas, first, event.schema, bytes)?;
+        self.guesses[guess] = place;
         self.places.push(place)?;
         self.times.push(event.timestamp_ns)?;
         put_values(
@@ -69,13 +69,18 @@ impl PageData {
             event.string_pool,
             event.stack_pool,
             event.values,
-        )
+        )?;
+        self.is_whole = true;
+        Ok(())
     }
 
     /// The text of the data, not escaped yet, under a name, and with why reading ended where that was before the end of
-    /// the trace. `AllocError` where a growth was refused.
+    /// the trace. `AllocError` where a growth was refused, or the data is spoiled.
     pub fn finish(self, name: &str, end: Option<&str>) -> Result<Vec<u8>, AllocError>
-        ensures { IfOk result (λ text. IsPrinted text.items) }
+        ensures printed { IfOk result (λ text. IsPrinted text.items) }
+        ensures page { IfOk result (λ text. (events : List PageEvent) → Holds self events →
+            IsPageText events name.now (option_map (λ t. t.now) end) text.items) }
+        ensures refused { IsSpoiled self → IsErr result }
     {
         let PageData {
             alloc,
@@ -84,79 +89,98 @@ impl PageData {
             times,
             places,
             schemas,
+            is_whole,
             ..
         } = self;
+        if !is_whole {
+            return Err(AllocError);
+        }
         put_columns(alloc, &mut text, &times, &places)?;
         put_lists(alloc, &mut text, &mut names)?;
         put_schemas(&mut text, &schemas)?;
-        put_zero(&mut text, &schemas)?;
+        put_zero(&mut text, zero_of(&schemas))?;
         put_last(&mut text, start_of(&times), name, end)?;
         Ok(text.into_inner())
     }
+}
 
-    // Where a schema stands: at the end, of no events, where it is new.
-    fn place_for(&mut self, id: WireTypeId, schema: &SchemaEntry) -> Result<usize, AllocError>
-        ensures { IfOk result (λ i. i < length self.new.schemas.items) }
-    {
-        let guess = id.0 as usize % GUESSES;
-        match place_of(&self.schemas, self.guesses[guess], schema) {
-            Some(place) => {
-                self.guesses[guess] = place;
-                Ok(place)
-            }
-            None => {
-                let place = self.put_last(schema)?;
-                self.guesses[guess] = place;
-                Ok(place)
-            }
+// Where a schema of such a wire id is looked for first.
+fn guess_of(id: WireTypeId) -> usize
+    ensures { result < 256 }
+{
+    id.0 as usize % 256
+}
+
+// Counts the bytes of an event to its schema, which comes last where it is new, and answers the schema's place.
+// `AllocError` where a growth was refused.
+fn count_in(
+    alloc: Global,
+    schemas: &mut Vec<PageSchema>,
+    guess: usize,
+    entry: &SchemaEntry,
+    bytes: u64,
+) -> Result<usize, AllocError>
+    ensures { IfOk result (λ place.
+        CountsAt schemas.old.items entry.now bytes place schemas.new.items) }
+{
+    match place_of(schemas.as_slice(), guess, entry) {
+        Some(place) => {
+            add_bytes(schemas, place, bytes);
+            Ok(place)
         }
-    }
-
-    // Puts a schema in last, of no events, and answers its place.
-    fn put_last(&mut self, schema: &SchemaEntry) -> Result<usize, AllocError>
-        ensures { IfOk result (λ i. i < length self.new.schemas.items) }
-    {
-        let place = self.schemas.len();
-        let entry = schema.clone(self.alloc)?;
-        self.schemas.push(PageSchema { entry, bytes: 0 })?;
-        Ok(place)
+        None => put_last_schema(alloc, schemas, entry, bytes),
     }
 }
 
 // Where a schema stands, if it does: at the guessed place, or elsewhere.
-fn place_of(schemas: &[PageSchema], guess: usize, schema: &SchemaEntry) -> Option<usize>
-    ensures { IfSome result (λ i. i < length schemas.now) }
+fn place_of(schemas: &[PageSchema], guess: usize, entry: &SchemaEntry) -> Option<usize>
+    ensures found { IfSome result (IsPlaceOf schemas.now entry.now) }
+    ensures none { IfNone result (LacksEntry schemas.now entry.now) }
 {
-    if guess < schemas.len() {
-        if is_at(schemas, guess, schema) {
+    if let Some(guessed) = schemas.get(guess) {
+        if guessed.entry == *entry {
             return Some(guess);
         }
     }
-    first_place(schemas, schema)
+    first_place(schemas, entry)
 }
 
 // The first place where a schema stands, if it does.
-fn first_place(schemas: &[PageSchema], schema: &SchemaEntry) -> Option<usize>
-    ensures { IfSome result (λ i. i < length schemas.now) }
+fn first_place(schemas: &[PageSchema], entry: &SchemaEntry) -> Option<usize>
+    ensures { result ≡ position (λ s. same_entry s.entry entry.now) schemas.now }
 {
-    'places: for place in 0..schemas.len() {
-        if is_at(schemas, place, schema) {
-            return Some(place);
-        }
-    }
-    None
+    schemas.iter().position(|schema| schema.entry == *entry)
 }
 
-// Whether a schema stands at a place.
-fn is_at(schemas: &[PageSchema], place: usize, schema: &SchemaEntry) -> bool
-    requires { place < length schemas.now }
+// Counts bytes to the schema at a place.
+fn add_bytes(schemas: &mut Vec<PageSchema>, place: usize, bytes: u64)
+    requires { place < length schemas.old.items }
+    ensures { HasMoreBytes schemas.old.items place bytes schemas.new.items }
 {
-    schemas[place].entry == *schema
+    schemas[place].bytes = schemas[place].bytes.saturating_add(bytes);
+}
+
+// Puts a schema in last, with so many bytes, and answers its place. `AllocError` where a growth was refused.
+fn put_last_schema(
+    alloc: Global,
+    schemas: &mut Vec<PageSchema>,
+    entry: &SchemaEntry,
+    bytes: u64,
+) -> Result<usize, AllocError>
+    ensures place { IfOk result (λ place. place ≡ length schemas.old.items) }
+    ensures last { OnOk result (schemas.new.items
+        ≡ schemas.old.items ++ record { entry = entry.now; bytes = bytes } ∷ []) }
+{
+    let place = schemas.len();
+    let entry = entry.clone(alloc)?;
+    schemas.push(PageSchema { entry, bytes })?;
+    Ok(place)
 }
 
 // Writes what comes before the values of the events.
 fn put_head(out: &mut Writer) -> Result<(), AllocError>
-    ensures { out.new.before ≡ out.old.before }
+    ensures tokens { PutsTokens head_tokens out.old out.new result }
+    ensures before { out.new.before ≡ out.old.before }
 {
     tri!(out.begin_object());
     tri!(out.key("format"));
@@ -174,7 +198,8 @@ fn put_columns(
     times: &[u64],
     places: &[usize],
 ) -> Result<(), AllocError>
-    ensures { out.new.before ≡ out.old.before }
+    ensures tokens { PutsTokens (columns_end times.now places.now) out.old out.new result }
+    ensures before { out.new.before ≡ out.old.before }
 {
     tri!(out.end_array());
     tri!(out.key("time"));
@@ -186,7 +211,9 @@ fn put_columns(
 
 // Writes the lists that values name.
 fn put_lists(alloc: Global, out: &mut Writer, names: &mut Names) -> Result<(), AllocError>
-    ensures { out.new.before ≡ out.old.before }
+    ensures tokens { PutsLists (tables_of names.new) out.old out.new result }
+    ensures grown { OnOk result (Grows (tables_of names.old) (tables_of names.new)) }
+    ensures before { out.new.before ≡ out.old.before }
 {
     tri!(out.key("stacks"));
     tri!(put_stacks(alloc, out, &mut names.strings, names.stacks.as_slice()));
@@ -196,7 +223,9 @@ fn put_lists(alloc: Global, out: &mut Writer, names: &mut Names) -> Result<(), A
 
 // Writes the schemas.
 fn put_schemas(out: &mut Writer, schemas: &[PageSchema]) -> Result<(), AllocError>
-    ensures { out.new.before ≡ out.old.before }
+    ensures tokens { PutsMember (codes "schemas") (list_json (list_map schema_json schemas.now))
+        out.old out.new result }
+    ensures before { out.new.before ≡ out.old.before }
 {
     tri!(out.key("schemas"));
     tri!(out.begin_array());
@@ -204,31 +233,23 @@ fn put_schemas(out: &mut Writer, schemas: &[PageSchema]) -> Result<(), AllocErro
     out.end_array()
 }
 
-fn put_each_schema(out: &mut Writer, schemas: &[PageSchema]) -> Result<(), AllocError>
-    ensures { out.new.before ≡ out.old.before }
-{
-    'schemas: for schema in schemas {
-        tri!(put_schema(out, &schema.entry, schema.bytes));
-    }
-    Ok(())
-}
-
-// Writes the nanoseconds since 1970 at time 0 of the clock that the first schema with one says.
-fn put_zero(out: &mut Writer, schemas: &[PageSchema]) -> Result<(), AllocError>
-    ensures { out.new.before ≡ out.old.before }
+// Writes the nanoseconds since 1970 at time 0, if these are known.
+fn put_zero(out: &mut Writer, zero: Option<i64>) -> Result<(), AllocError>
+    ensures tokens { PutsMember (codes "zero") (zero_json zero) out.old out.new result }
+    ensures before { out.new.before ≡ out.old.before }
 {
     tri!(out.key("zero"));
-    'schemas: for schema in schemas {
-        if let Some(clock) = clock_of(&schema.entry) {
-            return out.quoted_i64(clock.zero);
-        }
+    match zero {
+        Some(zero) => out.quoted_i64(zero),
+        None => out.null(),
     }
-    out.null()
 }
 
 // Writes the start, why reading ended, the name of the page, and the end of the data.
 fn put_last(out: &mut Writer, start: u64, name: &str, end: Option<&str>) -> Result<(), AllocError>
-    ensures { out.new.before ≡ out.old.before }
+    ensures tokens { PutsTokens (last_tokens start name.now (option_map (λ t. t.now) end)) out.old
+        out.new result }
+    ensures before { out.new.before ≡ out.old.before }
 {
     tri!(out.key("start"));
     tri!(out.quoted_u64(start));

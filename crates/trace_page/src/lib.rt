@@ -4,8 +4,11 @@
 mod columns;
 pub mod data;
 pub mod escaping;
+mod held;
 mod names;
 mod numbers;
 mod schemas;
 pub mod sending;
+#[cfg(test)]
+mod tests;
 mod values;

@@ -1,0 +1,21 @@
+-- One event more of those that were counted.
+use Rattle.std.proofs.Common.{◌≡◌, ◌≢◌, ℕ, suc, zero, ◌<◌, ◌+◌, Bool, true, false, List, [], ◌∷◌, ◌++◌, Option, Some, None}
+use Rattle.std.proofs.Common.{refl, sym, subst, get_or, length, arith, ap, inl, inr, ◌∙◌, All}
+use Rattle.std.proofs.lemmas.Bool.{true≢false}
+use Rattle.std.specs.Prelude.{slice_get, position}
+use Rattle.trace_wire.specs.Schemas.{Entry, same_entry}
+use Rattle.trace_wire.proofs.SameEntries.{same_entry-Decides}
+use Rattle.trace_page.specs.Counting.{PageEvent, IsPlaceOf, LacksEntry, CountsAt, AreCounted}
+use Rattle.trace_page.specs.declared.schemas.PageSchema.{PageSchema}
+
+-- an event is counted after others
+pub counted_more :
+    (old mid new : List PageSchema) (es : List PageEvent) (places : List ℕ) (e : PageEvent) (place : ℕ) →
+    AreCounted old es places mid → CountsAt mid e.shown.entry e.bytes place new →
+    AreCounted old (es ++ e ∷ []) (places ++ place ∷ []) new
+counted_more old mid new [] [] e place h c =
+    (new, subst (λ (ss : List PageSchema). CountsAt ss e.shown.entry e.bytes place new) h c, refl)
+counted_more old mid new [] (q ∷ qs) e place h c = absurd h
+counted_more old mid new (d ∷ ds) [] e place h c = absurd h
+counted_more old mid new (d ∷ ds) (q ∷ qs) e place h c =
+    (h.0, h.1, counted_more h.0 mid new ds qs e place h.2 c)
