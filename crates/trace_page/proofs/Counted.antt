@@ -1,11 +1,6 @@
 -- One event more of those that were counted.
-use Rattle.std.proofs.Common.{◌≡◌, ◌≢◌, ℕ, suc, zero, ◌<◌, ◌+◌, Bool, true, false, List, [], ◌∷◌, ◌++◌, Option, Some, None}
-use Rattle.std.proofs.Common.{refl, sym, subst, get_or, length, arith, ap, inl, inr, ◌∙◌, All}
-use Rattle.std.proofs.lemmas.Bool.{true≢false}
-use Rattle.std.specs.Prelude.{slice_get, position}
-use Rattle.trace_wire.specs.Schemas.{Entry, same_entry}
-use Rattle.trace_wire.proofs.SameEntries.{same_entry-Decides}
-use Rattle.trace_page.specs.Counting.{PageEvent, IsPlaceOf, LacksEntry, CountsAt, AreCounted}
+use Rattle.std.proofs.Common.{ℕ, List, [], ◌∷◌, ◌++◌, refl, subst}
+use Rattle.trace_page.specs.Counting.{PageEvent, CountsAt, AreCounted}
 use Rattle.trace_page.specs.declared.schemas.PageSchema.{PageSchema}
 
 -- an event is counted after others

@@ -1,6 +1,6 @@
 -- One thing more of those that were written.
-use Rattle.std.proofs.Common.{◌≡◌, ℕ, ◌+◌, ◌<◌, List, [], ◌∷◌, ◌++◌, take, get_or, map as list_map, refl, sym, ap, subst}
-use Rattle.std.proofs.Common.{◌∙◌, append_assoc, append-nil, arith}
+use Rattle.std.proofs.Common.{◌≡◌, ℕ, ◌+◌, ◌<◌, List, [], ◌∷◌, ◌++◌, take, get_or, map as list_map, refl, sym}
+use Rattle.std.proofs.Common.{ap, subst, ◌∙◌, append_assoc, append-nil, arith}
 use Rattle.std.proofs.lemmas.Grind.{flat_map-append}
 use Rattle.std.specs.Fmt.{decimal}
 use Rattle.std.specs.List.{AllZip, flat_map}
@@ -170,7 +170,8 @@ pair_stands {t = t} {u = u} {w = w} grow p seen xs i {x} {start} {old} {mid} {ne
     (value.value.tokens ∙ ap (λ (t : List Token). t ++ json_tokens j) value.tag))
     (λ js are. subst (λ (l : List (Value × Value)). ArePagePairs w p (values_to_pairs l)
     (js ++ pair_json_list (seen x) k j)) (sym (seen_more seen xs i x at.inside at.is))
-    (pairs_push w p before (seen x) js k j (pairs_grow t w (grows_trans t u w grow.first grow.second) p (values_to_pairs before) js are)
+    (pairs_push w p before (seen x) js k j
+    (pairs_grow t w (grows_trans t u w grow.first grow.second) p (values_to_pairs before) js are)
     (value_grows u w grow.second p (seen x).0 k key.value.is_so) value.value.is_so))
 
 -- ---- pairs of texts
@@ -214,5 +215,6 @@ text_pair_stands {a = a} {b = b} {c = c} grow seen xs i {x} {start} {old} {mid} 
     (two_put old new key.json value.json key.tokens value.tokens)
     (λ js are. subst (λ (l : List (List ℕ × List ℕ)). ArePairTexts c l (js ++ own))
     (sym (seen_more seen xs i x at.inside at.is))
-    (texts_push c before (seen x) js key.json value.json (pair_texts_grow a c (longer_trans a b c grow.first grow.second) before js are)
+    (texts_push c before (seen x) js key.json value.json
+    (pair_texts_grow a c (longer_trans a b c grow.first grow.second) before js are)
     (index_grows b c grow.second (text_or_digits (seen x).0) key.json key.is_so) value.is_so))

@@ -1,5 +1,6 @@
 -- The schemas of events, with how many bytes their events have.
-use Rattle.std.specs.Prelude.{◌≡◌, ◌≢◌, ℕ, ◌+◌, ◌-◌, ◌^◌, ◌⊎◌, List, [], ◌∷◌, ◌++◌, Some, length, min, slice_get, slice_set}
+use Rattle.std.specs.Prelude.{◌≡◌, ◌≢◌, ℕ, ◌+◌, ◌-◌, ◌^◌, ◌⊎◌, List, [], ◌∷◌, ◌++◌, Some, length}
+use Rattle.std.specs.Prelude.{min, slice_get, slice_set}
 use Rattle.std.specs.List.{All}
 use Rattle.trace_wire.specs.Schemas.{Entry}
 use Rattle.dial9_trace_format.specs.ShownEvents.{ShownEvent}

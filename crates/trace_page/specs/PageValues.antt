@@ -1,6 +1,6 @@
 -- What JSON a value of an event is in the data of a page.
-use Rattle.std.specs.Prelude.{◌≡◌, ℕ, ℤ, ◌-◌, Bool, List, [], ◌∷◌, ◌++◌, ◌==◌, if◌then◌else◌, Option, Some, None, codes, from_bits}
-use Rattle.std.specs.Prelude.{nat_le, slice_get, unsigned_abs}
+use Rattle.std.specs.Prelude.{◌≡◌, ℕ, ℤ, ◌-◌, Bool, List, [], ◌∷◌, ◌++◌, ◌==◌, if◌then◌else◌, Option, Some}
+use Rattle.std.specs.Prelude.{None, codes, from_bits, nat_le, slice_get, unsigned_abs}
 use Rattle.std.specs.Bool.{MatchBool}
 use Rattle.std.specs.FinMap as finmap
 use Rattle.std.specs.Float.{float_is_finite}

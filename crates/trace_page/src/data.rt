@@ -1,14 +1,15 @@
 //! The data of a page.
 
-ghost use Rattle.std.specs.Prelude.{◌≡◌, ◌<◌, ◌++◌, ◌∷◌, [], List, IfOk, IfSome, IfNone, IsErr, OnErr, OnOk};
-ghost use Rattle.std.specs.Prelude.{codes, length, map as list_map, option_map, position};
+ghost use Rattle.std.specs.Prelude.{◌≡◌, ◌<◌, ◌++◌, ◌∷◌, [], List, IfOk, IfSome, IfNone, IsErr};
+ghost use Rattle.std.specs.Prelude.{OnErr, OnOk, codes, length, map as list_map, option_map, position};
 ghost use Rattle.trace_wire.specs.Schemas.{same_entry};
 ghost use Rattle.trace_events.specs.OwnedEvents.{owned_event};
 ghost use Rattle.trace_json.specs.EventJson.{list_json};
 ghost use Rattle.trace_json.specs.parts.Put.{PutsTokens};
 ghost use Rattle.trace_page.specs.Escaping.{IsPrinted};
 ghost use Rattle.trace_page.specs.Pages.{IsPageText};
-ghost use Rattle.trace_page.specs.Counting.{PageEvent, IsPlaceOf, LacksEntry, HasMoreBytes, CountsAt};
+ghost use Rattle.trace_page.specs.Counting.{PageEvent, IsPlaceOf, LacksEntry};
+ghost use Rattle.trace_page.specs.Counting.{HasMoreBytes, CountsAt};
 ghost use Rattle.trace_page.specs.Holding.{Holds, IsSpoiled, head_tokens, tables_of};
 ghost use Rattle.trace_page.specs.PageSchemas.{schema_json, zero_json};
 ghost use Rattle.trace_page.specs.parts.Assembling.{columns_end, PutsLists, last_tokens};
@@ -79,7 +80,7 @@ impl PageData {
     pub fn finish(self, name: &str, end: Option<&str>) -> Result<Vec<u8>, AllocError>
         ensures printed { IfOk result (λ text. IsPrinted text.items) }
         ensures page { IfOk result (λ text. (events : List PageEvent) → Holds self events →
-            IsPageText events name.now (option_map (λ t. t.now) end) text.items) }
+            IsPageText events name.now (option_map (λ t. t.now) end.entry) text.items) }
         ensures refused { IsSpoiled self → IsErr result }
     {
         let PageData {
@@ -247,8 +248,8 @@ fn put_zero(out: &mut Writer, zero: Option<i64>) -> Result<(), AllocError>
 
 // Writes the start, why reading ended, the name of the page, and the end of the data.
 fn put_last(out: &mut Writer, start: u64, name: &str, end: Option<&str>) -> Result<(), AllocError>
-    ensures tokens { PutsTokens (last_tokens start name.now (option_map (λ t. t.now) end)) out.old
-        out.new result }
+    ensures tokens { PutsTokens (last_tokens start name.now (option_map (λ t. t.now) end.entry))
+        out.old out.new result }
     ensures before { out.new.before ≡ out.old.before }
 {
     tri!(out.key("start"));

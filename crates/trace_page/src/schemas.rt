@@ -8,7 +8,8 @@ ghost use Rattle.json.specs.Tree.{json_tokens};
 ghost use Rattle.trace_values.specs.FieldTypes.{tag};
 ghost use Rattle.trace_json.specs.EventJson.{list_json};
 ghost use Rattle.trace_json.specs.parts.Put.{Puts, PutsTokens};
-ghost use Rattle.trace_page.specs.PageSchemas.{text_or_null, index_or_null, roles_json, counter_name};
+ghost use Rattle.trace_page.specs.PageSchemas.{text_or_null, index_or_null, roles_json};
+ghost use Rattle.trace_page.specs.PageSchemas.{counter_name};
 ghost use Rattle.trace_page.specs.PageSchemas.{unit_at, counter_at, field_json, field_at};
 ghost use Rattle.trace_page.specs.PageSchemas.{first_fields, schema_json, IsZero};
 ghost use Rattle.trace_page.specs.PageValues.{natural_json};
@@ -126,8 +127,8 @@ pub(crate) fn put_text_member(
     name: &str,
     text: Option<&str>,
 ) -> Result<(), AllocError>
-    ensures tokens { PutsMember name.now (text_or_null (option_map (λ t. t.now) text)) out.old
-        out.new result }
+    ensures tokens { PutsMember name.now (text_or_null (option_map (λ t. t.now) text.entry))
+        out.old out.new result }
     ensures before { out.new.before ≡ out.old.before }
 {
     tri!(out.key(name));
@@ -135,7 +136,8 @@ pub(crate) fn put_text_member(
 }
 
 fn put_text_or_null(out: &mut Writer, text: Option<&str>) -> Result<(), AllocError>
-    ensures tokens { Puts (text_or_null (option_map (λ t. t.now) text)) out.old out.new result }
+    ensures tokens { Puts (text_or_null (option_map (λ t. t.now) text.entry)) out.old out.new
+        result }
     ensures before { out.new.before ≡ out.old.before }
 {
     match text {

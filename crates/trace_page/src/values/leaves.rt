@@ -60,8 +60,8 @@ pub(crate) fn put_bytes(
     names: &mut Names,
     bytes: &[u8],
 ) -> Result<(), AllocError>
-    ensures tokens { PutsOne (IsIndexOf (tables_of names.new).strings (encode_lower bytes.now)) out.old
-        out.new result }
+    ensures tokens { PutsOne (IsIndexOf (tables_of names.new).strings (encode_lower bytes.now))
+        out.old out.new result }
     ensures grown { OnOk result (Grows (tables_of names.old) (tables_of names.new)) }
     ensures before { out.new.before ≡ out.old.before }
 {
@@ -127,8 +127,8 @@ fn put_text_bytes(
     names: &mut Names,
     bytes: &[u8],
 ) -> Result<(), AllocError>
-    ensures tokens { PutsOne (IsIndexOf (tables_of names.new).strings (text_or_digits bytes.now)) out.old
-        out.new result }
+    ensures tokens { PutsOne (IsIndexOf (tables_of names.new).strings (text_or_digits bytes.now))
+        out.old out.new result }
     ensures grown { OnOk result (Grows (tables_of names.old) (tables_of names.new)) }
     ensures before { out.new.before ≡ out.old.before }
 {

@@ -20,9 +20,12 @@ addresses-init c = record {
 
 pub addresses-preserved : goal.addresses-preserved
 addresses-preserved c = record {
-  tokens = zip_stands address_text (IsIndexOf (texts_in c.addresses.strings)) (IsIndexOf (texts_in c.put_frame.new.strings))
-      (index_grows (texts_in c.addresses.strings) (texts_in c.put_frame.new.strings) c.in_ok-put_frame.ensures.grown) c.args.stack.now
-      c.addresses.address-index _ (record { inside = c.addresses-test.true; is = c.address-item.is }) c.addresses.invariant.tokens
+  tokens = zip_stands address_text (IsIndexOf (texts_in c.addresses.strings))
+      (IsIndexOf (texts_in c.put_frame.new.strings))
+      (index_grows (texts_in c.addresses.strings) (texts_in c.put_frame.new.strings) c.in_ok-put_frame.ensures.grown)
+      c.args.stack.now
+      c.addresses.address-index _
+      (record { inside = c.addresses-test.true; is = c.address-item.is }) c.addresses.invariant.tokens
       c.in_ok-put_frame.ensures.tokens;
   grown = longer_trans _ _ _ c.addresses.invariant.grown c.in_ok-put_frame.ensures.grown;
   before = c.in_ok-put_frame.ensures.before ∙ c.addresses.invariant.before;
@@ -30,5 +33,6 @@ addresses-preserved c = record {
 
 pub returns-clause-tokens : goal.returns-clause-tokens
 returns-clause-tokens c =
-    all_stand json_tokens (AllZip (IsIndexOf (texts_in c.addresses.strings))) address_text c.args.stack.now c.addresses.address-index _ _ c.addresses-test.false
+    all_stand json_tokens (AllZip (IsIndexOf (texts_in c.addresses.strings)))
+    address_text c.args.stack.now c.addresses.address-index _ _ c.addresses-test.false
     c.addresses.invariant.tokens

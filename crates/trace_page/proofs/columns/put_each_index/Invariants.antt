@@ -6,6 +6,7 @@ use Rattle.trace_page.proofs.columns.put_each_index.Given as goal
 
 abbrev pub invariant-loop-index : goal.invariant-loop-index
 invariant-loop-index l = record {
-  tokens : l.out.tokens ≡ l.initial.out.tokens ++ flat_map (λ i. json_tokens (index_json i)) (take l.index-index l.indexes);
+  tokens : l.out.tokens
+      ≡ l.initial.out.tokens ++ flat_map (λ i. json_tokens (index_json i)) (take l.index-index l.indexes);
   before : l.out.before ≡ l.initial.out.before;
 }

@@ -20,9 +20,12 @@ stacks-init c = record {
 
 pub stacks-preserved : goal.stacks-preserved
 stacks-preserved c = record {
-  tokens = zip_stands (λ (v : Vec ℕ Global). v.items) (IsStack (texts_in c.stacks.strings)) (IsStack (texts_in c.put_frames.new.strings))
-      (stack_grows (texts_in c.stacks.strings) (texts_in c.put_frames.new.strings) c.in_ok-put_frames.ensures.grown) c.args.stacks.now
-      c.stacks.stack-index _ (record { inside = c.stacks-test.true; is = c.stack-item.is }) c.stacks.invariant.tokens
+  tokens = zip_stands (λ (v : Vec ℕ Global). v.items) (IsStack (texts_in c.stacks.strings))
+      (IsStack (texts_in c.put_frames.new.strings))
+      (stack_grows (texts_in c.stacks.strings) (texts_in c.put_frames.new.strings) c.in_ok-put_frames.ensures.grown)
+      c.args.stacks.now
+      c.stacks.stack-index _
+      (record { inside = c.stacks-test.true; is = c.stack-item.is }) c.stacks.invariant.tokens
       c.in_ok-put_frames.ensures.tokens;
   grown = longer_trans _ _ _ c.stacks.invariant.grown c.in_ok-put_frames.ensures.grown;
   before = c.in_ok-put_frames.ensures.before ∙ c.stacks.invariant.before;
@@ -30,5 +33,6 @@ stacks-preserved c = record {
 
 pub returns-clause-tokens : goal.returns-clause-tokens
 returns-clause-tokens c =
-    all_stand json_tokens (AllZip (IsStack (texts_in c.stacks.strings))) (λ (v : Vec ℕ Global). v.items) c.args.stacks.now c.stacks.stack-index _ _ c.stacks-test.false
+    all_stand json_tokens (AllZip (IsStack (texts_in c.stacks.strings)))
+    (λ (v : Vec ℕ Global). v.items) c.args.stacks.now c.stacks.stack-index _ _ c.stacks-test.false
     c.stacks.invariant.tokens

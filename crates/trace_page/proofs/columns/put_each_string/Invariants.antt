@@ -7,6 +7,7 @@ use Rattle.trace_page.proofs.columns.put_each_string.Given as goal
 
 abbrev pub invariant-loop-text : goal.invariant-loop-text
 invariant-loop-text l = record {
-  tokens : l.out.tokens ≡ l.initial.out.tokens ++ flat_map (λ s. json_tokens (string (string_bytes s))) (take l.text-index l.strings);
+  tokens : l.out.tokens
+      ≡ l.initial.out.tokens ++ flat_map (λ s. json_tokens (string (string_bytes s))) (take l.text-index l.strings);
   before : l.out.before ≡ l.initial.out.before;
 }

@@ -6,6 +6,7 @@ use Rattle.trace_page.proofs.columns.put_each_time.Given as goal
 
 abbrev pub invariant-loop-time : goal.invariant-loop-time
 invariant-loop-time l = record {
-  tokens : l.out.tokens ≡ l.initial.out.tokens ++ flat_map (λ t. json_tokens (time_json l.start t)) (take l.time-index l.times);
+  tokens : l.out.tokens
+      ≡ l.initial.out.tokens ++ flat_map (λ t. json_tokens (time_json l.start t)) (take l.time-index l.times);
   before : l.out.before ≡ l.initial.out.before;
 }

@@ -9,7 +9,8 @@ use Rattle.trace_page.proofs.columns.put_stacks.Goals as goal
 pub returns-clause-tokens : goal.returns-clause-tokens
 returns-clause-tokens c =
     list_stands c.end_array.result
-    (AllZip (IsStack (texts_in c.put_each_stack.new.strings)) (list_map (λ (v : Vec ℕ Global). v.items) c.args.stacks.now))
+    (AllZip (IsStack (texts_in c.put_each_stack.new.strings))
+    (list_map (λ (v : Vec ℕ Global). v.items) c.args.stacks.now))
     c.args.out.now.tokens c.begin_array.new.self.tokens c.put_each_stack.new.out.tokens c.end_array.new.self.tokens
     c.in_ok-begin_array.ensures.ok c.in_ok-put_each_stack.ensures.tokens c.end_array.ensures.ok
 

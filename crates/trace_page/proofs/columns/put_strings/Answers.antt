@@ -5,5 +5,6 @@ use Rattle.trace_page.proofs.columns.put_strings.Goals as goal
 
 pub returns-clause-tokens : goal.returns-clause-tokens
 returns-clause-tokens c =
-    mapped_put c.end_array.result (λ s. string (string_bytes s)) c.args.strings.now _ _ _ _ c.in_ok-begin_array.ensures.ok
+    mapped_put c.end_array.result (λ s. string (string_bytes s))
+    c.args.strings.now _ _ _ _ c.in_ok-begin_array.ensures.ok
     c.in_ok-put_each_string.ensures.tokens c.end_array.ensures.ok

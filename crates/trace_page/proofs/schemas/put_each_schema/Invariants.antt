@@ -6,6 +6,7 @@ use Rattle.trace_page.proofs.schemas.put_each_schema.Given as goal
 
 abbrev pub invariant-schemas : goal.invariant-schemas
 invariant-schemas l = record {
-  tokens : l.out.tokens ≡ l.initial.out.tokens ++ flat_map (λ s. json_tokens (schema_json s)) (take l.schema-index l.schemas);
+  tokens : l.out.tokens
+      ≡ l.initial.out.tokens ++ flat_map (λ s. json_tokens (schema_json s)) (take l.schema-index l.schemas);
   before : l.out.before ≡ l.initial.out.before;
 }
