@@ -28,10 +28,10 @@ all_along old (x ∷ xs) last mid h =
 
 -- pieces were written, and then the last one, or a growth was refused
 pub chained :
-    {E : Type 0} (r : Result (Unit {0}) E) (old : List Token) (xs : List (List Token)) (last : List Token)
-    {mid : List Token} (new : List Token) → Along old xs mid → OnOk r (new ≡ mid ++ last) →
+    {E : Type 0} (r : Result (Unit {0}) E) (old : List Token) (xs : List (List Token)) (last mid new : List Token) →
+    Along old xs mid → OnOk r (new ≡ mid ++ last) →
     OnOk r (new ≡ old ++ onto xs last)
-chained r old xs last {mid} new h e =
+chained r old xs last mid new h e =
     on_ok_weaker r (λ (p : new ≡ mid ++ last). p ∙ all_along old xs last mid h) e
 
 -- a member whose value is told otherwise
@@ -61,7 +61,7 @@ list_member r old name js {one} {two} {three} new a b c e =
     on_ok_weaker r
     (λ (p : new ≡ old ++ (key name ∷ begin_array ∷ (flat_map json_tokens js ++ end_array ∷ []))).
     p ∙ ap (λ (t : List Token). old ++ key name ∷ begin_array ∷ t) (sym (list_tokens js)))
-    (chained r old ((key name ∷ []) ∷ (begin_array ∷ []) ∷ flat_map json_tokens js ∷ []) (end_array ∷ []) new
+    (chained r old ((key name ∷ []) ∷ (begin_array ∷ []) ∷ flat_map json_tokens js ∷ []) (end_array ∷ []) three new
     (one, a, (two, b, (three, c, refl))) e)
 
 -- what is so anyway is so where no growth was refused

@@ -7,5 +7,7 @@ pub mod Growing
 pub mod Named
 pub mod MoreStand
 pub mod Counted
+pub mod Places
+pub mod Numerals
 pub mod Assembled
 pub mod Floats

@@ -1,5 +1,5 @@
 -- Where things stand in lists that tests and sets find them in.
-use Rattle.std.proofs.Common.{◌≡◌, ◌≢◌, ℕ, ◌<◌, ◌≤◌, Bool, true, false, cond, List, [], ◌∷◌, ◌++◌, Option, Some, None}
+use Rattle.std.proofs.Common.{◌≡◌, ℕ, zero, suc, ◌<◌, ◌≤◌, Bool, true, false, cond, List, [], ◌∷◌, ◌++◌, Option, Some, None}
 use Rattle.std.proofs.Common.{is_some, refl, sym, ap, subst, ◌∙◌, get_or, length, map as list_map, arith}
 use Rattle.std.proofs.lemmas.Bool.{true≢false, ltb-false}
 use Rattle.std.proofs.lemmas.List.{map_push}
@@ -48,3 +48,9 @@ pub inserted : {A : Type 0} (eq : A → A → Bool) (seen : A → List ℕ) (key
 inserted {A} eq seen keys new k e =
     subst (λ (l : List A). IsLonger (list_map seen keys) (list_map seen l)) (sym e)
     (inserted_by seen keys k (list_any (eq k) keys))
+
+-- what is read at an index is read there whatever stands for what is not there
+pub read_again : (xs : List ℕ) (i : ℕ) → get_or xs i 0 ≡ get_or xs i (get_or xs i 0)
+read_again [] i = refl
+read_again (x ∷ xs) zero = refl
+read_again (x ∷ xs) (suc i) = read_again xs i

@@ -1,6 +1,6 @@
 //! Numbers of the data. Each function answers `AllocError` where a growth was refused.
 
-ghost use Rattle.std.specs.Prelude.{◌≡◌, codes, unsigned_abs};
+ghost use Rattle.std.specs.Prelude.{◌≡◌, unsigned_abs};
 ghost use Rattle.json.specs.Json.{string};
 ghost use Rattle.trace_json.specs.Put.{PutsOne};
 ghost use Rattle.trace_page.specs.PageValues.{is_exact, index_json, natural_json, integer_json};

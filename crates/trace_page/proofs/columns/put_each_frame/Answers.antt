@@ -9,6 +9,7 @@ use Rattle.trace_page.specs.PageValues.{IsIndexOf}
 use Rattle.trace_page.specs.Pages.{IsStack}
 use Rattle.trace_page.proofs.Growing.{longer_refl, longer_trans, index_grows}
 use Rattle.trace_page.proofs.MoreStand.{zip_stands}
+use Rattle.trace_page.proofs.Named.{read_again}
 use Rattle.trace_page.proofs.columns.put_each_frame.Goals as goal
 
 pub addresses-init : goal.addresses-init
@@ -25,7 +26,7 @@ addresses-preserved c = record {
       (index_grows (texts_in c.addresses.strings) (texts_in c.put_frame.new.strings) c.in_ok-put_frame.ensures.grown)
       c.args.stack.now
       c.addresses.address-index _
-      (record { inside = c.addresses-test.true; is = c.address-item.is }) c.addresses.invariant.tokens
+      (record { inside = c.addresses-test.true; is = read_again c.args.stack.now c.addresses.address-index }) c.addresses.invariant.tokens
       c.in_ok-put_frame.ensures.tokens;
   grown = longer_trans _ _ _ c.addresses.invariant.grown c.in_ok-put_frame.ensures.grown;
   before = c.in_ok-put_frame.ensures.before ∙ c.addresses.invariant.before;

@@ -1,7 +1,8 @@
-use Rattle.std.proofs.Common.{[], refl, ℕ, Vec, Global, ◌∙◌}
+use Rattle.std.proofs.Common.{[], refl, ℕ, List, Vec, Global, subst, ◌∙◌}
 use Rattle.std.specs.List.{AllZip}
 use Rattle.json.specs.Tree.{json_tokens}
 use Rattle.trace_values.specs.AddressTexts.{address_text}
+use Rattle.trace_json.specs.Put.{Stands}
 use Rattle.trace_json.proofs.OneMore.{all_stand}
 use Rattle.trace_json.proofs.Tokens.{nothing_put}
 use Rattle.trace_page.specs.Holding.{texts_in}
@@ -26,7 +27,8 @@ stacks-preserved c = record {
       c.args.stacks.now
       c.stacks.stack-index _
       (record { inside = c.stacks-test.true; is = c.stack-item.is }) c.stacks.invariant.tokens
-      c.in_ok-put_frames.ensures.tokens;
+      (subst (λ (s : List ℕ). Stands (IsStack (texts_in c.put_frames.new.strings) s) c.stacks.out.tokens
+      c.put_frames.new.out.tokens) c.deref.ensures.value c.in_ok-put_frames.ensures.tokens);
   grown = longer_trans _ _ _ c.stacks.invariant.grown c.in_ok-put_frames.ensures.grown;
   before = c.in_ok-put_frames.ensures.before ∙ c.stacks.invariant.before;
 }

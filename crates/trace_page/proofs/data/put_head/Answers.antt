@@ -4,7 +4,7 @@ use Rattle.trace_page.proofs.data.put_head.Goals as goal
 
 pub returns-7-clause-tokens : goal.returns-7-clause-tokens
 returns-7-clause-tokens c =
-    chained c.begin_array.result _ (_ ∷ _ ∷ _ ∷ _ ∷ _ ∷ _ ∷ []) _ _ (
+    chained c.begin_array.result _ (_ ∷ _ ∷ _ ∷ _ ∷ _ ∷ _ ∷ []) _ _ _ (
       _,
       c.in-Ok-tri.ensures.ok,
       (

@@ -4,4 +4,4 @@ use Rattle.trace_page.proofs.schemas.put_bytes_member.Goals as goal
 
 pub returns-2-clause-tokens : goal.returns-2-clause-tokens
 returns-2-clause-tokens c =
-    chained c.put_natural.result _ (_ ∷ []) _ _ (_, c.in-Ok-tri.ensures.ok, refl) c.put_natural.ensures.tokens
+    chained c.put_natural.result _ (_ ∷ []) _ _ _ (_, c.in-Ok-tri.ensures.ok, refl) c.put_natural.ensures.tokens

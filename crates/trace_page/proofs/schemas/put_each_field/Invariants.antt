@@ -6,6 +6,6 @@ use Rattle.trace_page.proofs.schemas.put_each_field.Given as goal
 
 abbrev pub invariant-fields : goal.invariant-fields
 invariant-fields l = record {
-  tokens : l.out.tokens ≡ l.initial.out.tokens ++ flat_map json_tokens (first_fields l.entry.now l.place);
+  tokens : l.out.tokens ≡ l.initial.out.tokens ++ flat_map json_tokens (first_fields l.entry l.place);
   before : l.out.before ≡ l.initial.out.before;
 }

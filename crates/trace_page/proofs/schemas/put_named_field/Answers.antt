@@ -11,7 +11,7 @@ pub returns-6-clause-tokens : goal.returns-6-clause-tokens
 returns-6-clause-tokens c =
     let e = c.args.entry.now in
     let f = c.args.field.now in
-    chained c.end_object.result _ (_ ∷ _ ∷ _ ∷ _ ∷ _ ∷ []) _ _ (
+    chained c.end_object.result _ (_ ∷ _ ∷ _ ∷ _ ∷ _ ∷ []) _ _ _ (
       _,
       c.in-Ok-tri.ensures.ok,
       (

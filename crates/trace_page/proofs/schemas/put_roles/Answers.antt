@@ -9,7 +9,7 @@ pub returns-7-clause-tokens : goal.returns-7-clause-tokens
 returns-7-clause-tokens c =
     let e = c.args.entry.now in
     let roles = c.roles_of-roles.ensures in
-    chained c.end_object.result _ (_ ∷ _ ∷ _ ∷ _ ∷ _ ∷ _ ∷ []) _ _ (
+    chained c.end_object.result _ (_ ∷ _ ∷ _ ∷ _ ∷ _ ∷ _ ∷ []) _ _ _ (
       _,
       c.in-Ok-tri.ensures.ok,
       (

@@ -5,7 +5,7 @@ use Rattle.trace_page.proofs.schemas.put_schema.Goals as goal
 
 pub returns-6-clause-tokens : goal.returns-6-clause-tokens
 returns-6-clause-tokens c =
-    chained c.end_object.result _ (_ ∷ _ ∷ _ ∷ _ ∷ _ ∷ []) _ _ (
+    chained c.end_object.result _ (_ ∷ _ ∷ _ ∷ _ ∷ _ ∷ []) _ _ _ (
       _,
       c.in-Ok-tri.ensures.ok,
       (
