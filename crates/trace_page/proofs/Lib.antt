@@ -9,5 +9,7 @@ pub mod MoreStand
 pub mod Counted
 pub mod Places
 pub mod Numerals
+pub mod Zeros
 pub mod Assembled
+pub mod Told
 pub mod Floats

@@ -192,6 +192,12 @@ texts_push strings (p ∷ ps) x js i j all is also = (
   texts_push strings ps x all.2 i j all.6 is also,
 )
 
+-- the index of a text that is told otherwise
+pub index_as : (xs : List (List ℕ)) (s t : List ℕ) {old new : List Token} → s ≡ t →
+    Stands (IsIndexOf xs (text_or_digits s)) old new → Stands (IsIndexOf xs (text_or_digits t)) old new
+index_as xs s t {old} {new} same h =
+    subst (λ (u : List ℕ). Stands (IsIndexOf xs (text_or_digits u)) old new) same h
+
 -- a list that grew twice
 pub record LongerTwice (a b c : List (List ℕ)) : Type 0 where
   pub first : IsLonger a b
