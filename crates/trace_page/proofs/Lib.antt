@@ -13,3 +13,4 @@ pub mod Zeros
 pub mod Assembled
 pub mod Told
 pub mod Floats
+pub mod KindsPut

@@ -6,9 +6,8 @@ use Rattle.std.proofs.lemmas.List.{map_push}
 use Rattle.std.proofs.lemmas.List.Quantifiers.{position-Some}
 use Rattle.std.proofs.lemmas.List.Sums.{fails_before_first}
 use Rattle.std.proofs.lemmas.Option.{slice_get-map, slice_get-get_or}
-use Rattle.std.specs.List.{All, list_any, position, position_or_len}
+use Rattle.std.specs.List.{All, position, position_or_len}
 use Rattle.std.specs.Prelude.{if◌then◌else◌, option_map, slice_get}
-use Rattle.indexmap.specs.IndexSet.{insert_key}
 use Rattle.trace_page.specs.parts.Writing.{IsLonger, StandsAt}
 use Rattle.trace_page.proofs.Growing.{longer_refl}
 
@@ -43,11 +42,10 @@ inserted_by seen keys k true = longer_refl (list_map seen keys)
 inserted_by seen keys k false = (seen k ∷ [], map_push seen keys k)
 
 -- a key that was inserted comes last or was there
-pub inserted : {A : Type 0} (eq : A → A → Bool) (seen : A → List ℕ) (keys new : List A) (k : A) →
-    new ≡ insert_key eq keys k → IsLonger (list_map seen keys) (list_map seen new)
-inserted {A} eq seen keys new k e =
-    subst (λ (l : List A). IsLonger (list_map seen keys) (list_map seen l)) (sym e)
-    (inserted_by seen keys k (list_any (eq k) keys))
+pub inserted : {A : Type 0} {b : Bool} (seen : A → List ℕ) (keys new : List A) (k : A) →
+    new ≡ (if b then keys else keys ++ k ∷ []) → IsLonger (list_map seen keys) (list_map seen new)
+inserted {A} {b} seen keys new k e =
+    subst (λ (l : List A). IsLonger (list_map seen keys) (list_map seen l)) (sym e) (inserted_by seen keys k b)
 
 -- what is read at an index is read there whatever stands for what is not there
 pub read_again : (xs : List ℕ) (i : ℕ) → get_or xs i 0 ≡ get_or xs i (get_or xs i 0)

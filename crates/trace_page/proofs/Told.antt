@@ -1,14 +1,18 @@
 -- The data of a page once one event more was told, and its text at the end.
 use Rattle.std.proofs.Common.{◌≡◌, ◌≤◌, ℕ, ℤ, Bool, true, List, [], ◌∷◌, ◌++◌, Option, Some, map as list_map, refl, sym, ap}
-use Rattle.std.proofs.Common.{subst, ◌∙◌, append_assoc, append-nil, string_bytes, String, Global}
+use Rattle.std.proofs.Common.{subst, ◌∙◌, append_assoc, append-nil, string_bytes, String, Vec, Global, Result, OnOk}
+use Rattle.std.proofs.lemmas.Result.{on_ok_weaker}
 use Rattle.std.proofs.lemmas.Grind.{flat_map-append}
 use Rattle.std.proofs.lemmas.List.{map_push}
 use Rattle.std.specs.List.{AllZip, flat_map}
 use Rattle.json.specs.Json.{Json, string}
 use Rattle.json.specs.Lex.{tokens}
 use Rattle.json.specs.Print.{print}
-use Rattle.json.specs.Token.{Token}
+use Rattle.json.specs.Token.{Token, key}
 use Rattle.json.specs.Tree.{json_tokens}
+use Rattle.std.specs.Prelude.{codes}
+use Rattle.trace_json.specs.EventJson.{list_json}
+use Rattle.trace_json.specs.Put.{Stands}
 use Rattle.trace_json.specs.Lines.{json_text}
 use Rattle.trace_page.specs.Counting.{PageEvent, CountsAt, AreCounted}
 use Rattle.trace_page.specs.Holding.{Holds, head_tokens, tables_of}
@@ -17,7 +21,9 @@ use Rattle.trace_page.specs.PageValues.{Tables, ArePageValues}
 use Rattle.trace_page.specs.Pages.{AreEventValues, IsPageText, IsStack, times_of}
 use Rattle.trace_page.specs.declared.held.PageData.{PageData}
 use Rattle.trace_page.specs.declared.schemas.PageSchema.{PageSchema}
-use Rattle.trace_page.specs.parts.Writing.{Grows}
+use Rattle.trace_page.specs.parts.Writing.{Grows, IsListOf}
+use Rattle.trace_page.specs.parts.Assembling.{StandLists}
+use Rattle.trace_page.proofs.Chains.{chained}
 use Rattle.trace_page.proofs.Assembled.{Parts, Written, whole, whole_written}
 use Rattle.trace_page.proofs.Counted.{counted_more}
 use Rattle.trace_page.proofs.EscapedText.{escaped_document}
@@ -72,6 +78,35 @@ pub texts_twice : (ks : List (String Global)) →
     list_map (λ s. string (string_bytes s)) ks ≡ list_map string (list_map string_bytes ks)
 texts_twice [] = refl
 texts_twice (k ∷ ks) = ap (λ (l : List Json). string (string_bytes k) ∷ l) (texts_twice ks)
+
+-- the lists that values name were written
+pub lists_put :
+    {E : Type 0} (r : Result (Unit {0}) E) (keys : List (String Global)) (vectors : List (Vec ℕ Global))
+    (old : List Token) {one two three new : List Token} {ks : List (String Global)} {vs : List (Vec ℕ Global)} →
+    one ≡ old ++ key (codes "stacks") ∷ [] →
+    Stands (IsListOf (AllZip (IsStack (list_map string_bytes keys)) (list_map (λ v. v.items) vs))) one two →
+    three ≡ two ++ key (codes "strings") ∷ [] →
+    OnOk r (new ≡ three ++ json_tokens (list_json (list_map (λ s. string (string_bytes s)) ks))) → ks ≡ keys →
+    vs ≡ vectors →
+    OnOk r (StandLists (record { strings = list_map string_bytes keys; stacks = list_map (λ v. v.items) vectors }) old
+    new)
+lists_put r keys vectors old {one} {two} {three} {new} {ks} {vs} a s b e same also =
+    let texts : List (String Global) → List Token = λ l. json_tokens (list_json (list_map (λ s. string (string_bytes s)) l))
+    in
+    on_ok_weaker r
+    (λ (p : new ≡ old ++ (key (codes "stacks") ∷ (json_tokens s.json ++ key (codes "strings") ∷ texts ks))). record {
+      stacks = s.is_so.0;
+      are = subst (λ (l : List (Vec ℕ Global)).
+          AllZip (IsStack (list_map string_bytes keys)) (list_map (λ v. v.items) l) s.is_so.0) also s.is_so.1;
+      tokens = p
+          ∙ ap (λ (j : Json). old ++ key (codes "stacks") ∷ (json_tokens j ++ key (codes "strings") ∷ texts ks)) s.is_so.2
+          ∙ ap (λ (l : List (String Global)). old ++ key (codes "stacks")
+          ∷ (json_tokens (list_json s.is_so.0) ++ key (codes "strings") ∷ texts l)) same
+          ∙ ap (λ (l : List Json). old ++ key (codes "stacks")
+          ∷ (json_tokens (list_json s.is_so.0) ++ key (codes "strings") ∷ json_tokens (list_json l))) (texts_twice keys);
+    })
+    (chained r old ((key (codes "stacks") ∷ []) ∷ json_tokens s.json ∷ (key (codes "strings") ∷ []) ∷ []) (texts ks)
+    three new (one, a, (two, s.tokens, (three, b, refl))) e)
 
 -- what was written of a page of these events
 pub record IsFinished (events : List PageEvent) (p : Parts) (text : List ℕ) : Type 0 where

@@ -1,14 +1,16 @@
-use Rattle.std.proofs.Common.{sym, ◌∙◌}
+use Rattle.std.proofs.Common.{◌≡◌, Some, true, rules}
+use Rattle.std.specs.Prelude.{slice_get}
+use Rattle.trace_wire.specs.Schemas.{same_entry}
 use Rattle.trace_wire.proofs.SameEntries.{same_entry-Decides}
 use Rattle.trace_page.proofs.Places.{place_found, place_lacking}
 use Rattle.trace_page.proofs.data.place_of.Goals as goal
 
 pub returns-then-eq-clause-found : goal.returns-then-eq-clause-found
-returns-then-eq-clause-found c = (
-  c.in-Some.guessed.now,
-  sym c.in-Some.ensures.lookup,
-  (same_entry-Decides c.in-Some.guessed.now.entry c.args.entry.now).0 (sym c.eq.ensures ∙ c.if-eq.true),
-)
+returns-then-eq-clause-found c =
+    let s = c.in-Some.guessed.now in
+    let at : slice_get c.args.schemas.now c.args.guess ≡ Some s = search rules in
+    let same : same_entry s.entry c.args.entry.now ≡ true = search rules in
+    (s, at, (same_entry-Decides s.entry c.args.entry.now).0 same)
 
 pub returns-clause-found : goal.returns-clause-found
 returns-clause-found c = place_found c.first_place.result c.args.schemas.now c.args.entry.now c.first_place.ensures

@@ -69,6 +69,31 @@ put_pairs-pairs-init g t c = record {
   before = refl;
 }
 
+pub put_pairs-pairs-preserved : goal.put_pairs-pairs-preserved
+put_pairs-pairs-preserved g t c =
+    let p = as_pools c.args.strings.now c.args.stacks.now in
+    let value = g.V.TraceValue.value in
+    let x = c.pair-item.result in
+    let key = c.in-Ok-tri-2.ensures in
+    let other = c.in-Ok-tri-4.ensures in
+    record {
+      tokens = pair_stands (grow_twice key.grown other.grown) p (λ y. (value y.0, value y.1)) c.args.pairs.now
+          c.pairs.pair-index (record { inside = c.pairs-test.true; is = c.pair-item.is }) c.pairs.invariant.tokens
+          (tagged _ p (value x.0) _ _ c.kind_tag.result c.kind_tag.ensures c.in-Ok-tri.ensures.ok key.tokens)
+          (tagged _ p (value x.1) _ _ c.kind_tag-in-pairs.result c.kind_tag-in-pairs.ensures c.in-Ok-tri-3.ensures.ok
+          other.tokens);
+      grown = grows_trans _ _ _ c.pairs.invariant.grown (grows_trans _ _ _ key.grown other.grown);
+      before = other.before ∙ c.in-Ok-tri-3.ensures.room.0 ∙ key.before ∙ c.in-Ok-tri.ensures.room.0
+          ∙ c.pairs.invariant.before;
+    }
+
+pub put_pairs-returns-clause-tokens : goal.put_pairs-returns-clause-tokens
+put_pairs-returns-clause-tokens g t c =
+    let value = g.V.TraceValue.value in
+    all_stand json_tokens
+    (λ ps. ArePagePairs (tables_of c.pairs.names) (as_pools c.args.strings.now c.args.stacks.now) (values_to_pairs ps))
+    (λ p. (value p.0, value p.1)) c.args.pairs.now c.pairs.pair-index _ _ c.pairs-test.false c.pairs.invariant.tokens
+
 -- what is gone into next is less deep
 
 pub put_value-put_list-requires : goal.put_value-put_list-requires

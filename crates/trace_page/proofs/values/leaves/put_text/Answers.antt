@@ -9,7 +9,7 @@ use Rattle.trace_page.proofs.values.leaves.put_text.Goals as goal
 pub returns-2-clause-tokens : goal.returns-2-clause-tokens
 returns-2-clause-tokens c =
     one_stands c.put_index.result (IsIndexOf (texts_in c.index_of_text.new.strings) c.args.text.now)
-    (index_json c.in-Ok-tri.value) _ _ (c.in-Ok-tri.value, c.in-Ok-tri.ensures.index, refl) c.put_index.ensures.tokens
+    (index_json c.in-Ok-tri.field-0) _ _ (c.in-Ok-tri.field-0, c.in-Ok-tri.ensures.index, refl) c.put_index.ensures.tokens
 
 pub returns-2-clause-grown : goal.returns-2-clause-grown
 returns-2-clause-grown c =
