@@ -20,19 +20,19 @@ put_as t p r v w old new is done =
 
 -- JSON was put that the value is
 pub json_put :
-    {E : Type 0} {t : Tables} (p : Pools) (r : Result (Unit {0}) E) (v w : Value) (j : Json) (old new : List Token) →
+    {E : Type 0} (t : Tables) (p : Pools) (r : Result (Unit {0}) E) (v w : Value) (j : Json) (old new : List Token) →
     v ≡ w → IsPageValue t p w j → OnOk r (new ≡ old ++ json_tokens j) →
     OnOk r (Stands (IsPageValue t p v) old new)
-json_put {t = t} p r v w j old new is so put =
+json_put t p r v w j old new is so put =
     put_as t p r v w old new is (one_stands r (IsPageValue t p w) j old new so put)
 
 -- an integer was put
 pub integer_put :
-    {E : Type 0} {t : Tables} (p : Pools) (r : Result (Unit {0}) E) (v : Value) (z y : ℤ) (old new : List Token) →
-    v ≡ values.integer z → y ≡ z → OnOk r (new ≡ old ++ json_tokens (integer_json y)) →
+    {E : Type 0} (t : Tables) (p : Pools) (r : Result (Unit {0}) E) (v : Value) (z y : ℤ) (old new : List Token) →
+    v ≡ values.integer z → OnOk r (new ≡ old ++ json_tokens (integer_json y)) → y ≡ z →
     OnOk r (Stands (IsPageValue t p v) old new)
-integer_put {t = t} p r v z y old new is same put =
-    json_put p r v (values.integer z) (integer_json y) old new is (ap integer_json same) put
+integer_put t p r v z y old new is put same =
+    json_put t p r v (values.integer z) (integer_json y) old new is (ap integer_json same) put
 
 stands_as :
     {E : Type 0} (r : Result (Unit {0}) E) (is also : Json → Type 0) (old new : List Token) →
@@ -42,10 +42,10 @@ stands_as (Err e) is also old new f s = tt
 
 -- what the value is was put
 pub kind_put :
-    {E : Type 0} {t : Tables} (p : Pools) (r : Result (Unit {0}) E) (v w : Value) (is : Json → Type 0)
+    {E : Type 0} (t : Tables) (p : Pools) (r : Result (Unit {0}) E) (v w : Value) (is : Json → Type 0)
     (old new : List Token) → v ≡ w → ((j : Json) → is j → IsPageValue t p w j) → OnOk r (Stands is old new) →
     OnOk r (Stands (IsPageValue t p v) old new)
-kind_put {t = t} p r v w is old new same f put =
+kind_put t p r v w is old new same f put =
     put_as t p r v w old new same (stands_as r is (IsPageValue t p w) old new f put)
 
 -- a list and a map hold others

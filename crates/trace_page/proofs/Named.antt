@@ -42,9 +42,9 @@ inserted_by seen keys k true = longer_refl (list_map seen keys)
 inserted_by seen keys k false = (seen k ∷ [], map_push seen keys k)
 
 -- a key that was inserted comes last or was there
-pub inserted : {A : Type 0} {b : Bool} (seen : A → List ℕ) (keys new : List A) (k : A) →
+pub inserted : {A : Type 0} (seen : A → List ℕ) (keys new : List A) (k : A) (b : Bool) →
     new ≡ (if b then keys else keys ++ k ∷ []) → IsLonger (list_map seen keys) (list_map seen new)
-inserted {A} {b} seen keys new k e =
+inserted {A} seen keys new k b e =
     subst (λ (l : List A). IsLonger (list_map seen keys) (list_map seen l)) (sym e) (inserted_by seen keys k b)
 
 -- what is read at an index is read there whatever stands for what is not there

@@ -82,7 +82,7 @@ texts_twice (k ∷ ks) = ap (λ (l : List Json). string (string_bytes k) ∷ l) 
 -- the lists that values name were written
 pub lists_put :
     {E : Type 0} (r : Result (Unit {0}) E) (keys : List (String Global)) (vectors : List (Vec ℕ Global))
-    (old : List Token) {one two three new : List Token} {ks : List (String Global)} {vs : List (Vec ℕ Global)} →
+    (old : List Token) {one two three : List Token} (new : List Token) {ks : List (String Global)} {vs : List (Vec ℕ Global)} →
     one ≡ old ++ key (codes "stacks") ∷ [] →
     Stands (IsListOf (AllZip (IsStack (list_map string_bytes keys)) (list_map (λ v. v.items) vs))) one two →
     three ≡ two ++ key (codes "strings") ∷ [] →
@@ -90,7 +90,7 @@ pub lists_put :
     vs ≡ vectors →
     OnOk r (StandLists (record { strings = list_map string_bytes keys; stacks = list_map (λ v. v.items) vectors }) old
     new)
-lists_put r keys vectors old {one} {two} {three} {new} {ks} {vs} a s b e same also =
+lists_put r keys vectors old {one} {two} {three} new {ks} {vs} a s b e same also =
     let texts : List (String Global) → List Token = λ l. json_tokens (list_json (list_map (λ s. string (string_bytes s)) l))
     in
     on_ok_weaker r

@@ -1,4 +1,4 @@
-use Rattle.std.proofs.Common.{◌≡◌, Some, true, rules}
+use Rattle.std.proofs.Common.{◌≡◌, Some, true, sym, rules}
 use Rattle.std.specs.Prelude.{slice_get}
 use Rattle.trace_wire.specs.Schemas.{same_entry}
 use Rattle.trace_wire.proofs.SameEntries.{same_entry-Decides}
@@ -8,7 +8,7 @@ use Rattle.trace_page.proofs.data.place_of.Goals as goal
 pub returns-then-eq-clause-found : goal.returns-then-eq-clause-found
 returns-then-eq-clause-found c =
     let s = c.in-Some.guessed.now in
-    let at : slice_get c.args.schemas.now c.args.guess ≡ Some s = search rules in
+    let at : slice_get c.args.schemas.now c.args.guess ≡ Some s = sym c.in-Some.ensures.lookup in
     let same : same_entry s.entry c.args.entry.now ≡ true = search rules in
     (s, at, (same_entry-Decides s.entry c.args.entry.now).0 same)
 

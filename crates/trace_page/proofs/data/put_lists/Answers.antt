@@ -6,7 +6,7 @@ use Rattle.trace_page.proofs.data.put_lists.Goals as goal
 
 pub returns-4-clause-tokens : goal.returns-4-clause-tokens
 returns-4-clause-tokens c =
-    lists_put c.put_strings.result c.put_stacks.new.strings.keys c.args.names.now.stacks.keys c.args.out.now.tokens
+    lists_put c.put_strings.result c.put_stacks.new.strings.keys c.args.names.now.stacks.keys c.args.out.now.tokens _
     c.in-Ok-tri.ensures.ok c.in-Ok-tri-2.ensures.tokens c.in-Ok-tri-3.ensures.ok c.put_strings.ensures.tokens
     (search rules) (search rules)
 

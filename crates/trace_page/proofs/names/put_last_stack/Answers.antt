@@ -16,6 +16,6 @@ returns-clause-index c = elim c.match-insert_full.branch [
 pub returns-clause-grown : goal.returns-clause-grown
 returns-clause-grown c = elim c.match-insert_full.branch [
   | in-Ok w ↦ rw w.result-is
-      (inserted (λ (v : Vec ℕ Global). v.items) c.args.stacks.now.keys c.insert_full.new.self.keys c.args.stack w.in-Ok.ensures.keys)
+      (inserted (λ (v : Vec ℕ Global). v.items) c.args.stacks.now.keys c.insert_full.new.self.keys c.args.stack _ w.in-Ok.ensures.keys)
   | in-Err w ↦ rw w.result-is tt
 ]

@@ -16,6 +16,6 @@ returns-clause-index c = elim c.match-insert_full.branch [
 pub returns-clause-grown : goal.returns-clause-grown
 returns-clause-grown c = elim c.match-insert_full.branch [
   | in-Ok w ↦ rw w.result-is
-      (inserted string_bytes c.args.strings.now.keys c.insert_full.new.self.keys c.args.text w.in-Ok.ensures.keys)
+      (inserted string_bytes c.args.strings.now.keys c.insert_full.new.self.keys c.args.text _ w.in-Ok.ensures.keys)
   | in-Err w ↦ rw w.result-is tt
 ]

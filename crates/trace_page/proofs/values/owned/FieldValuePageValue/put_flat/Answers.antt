@@ -20,16 +20,16 @@ seen_texts ps = values.texts (text_pairs_view ps)
 
 pub returns-in-I64-clause-tokens : goal.returns-in-I64-clause-tokens
 returns-in-I64-clause-tokens c = λ none.
-    integer_put (as_pools c.args.strings.now c.args.stacks.now) c.put_integer.result (view c.args.self.now)
+    integer_put _ (as_pools c.args.strings.now c.args.stacks.now) c.put_integer.result (view c.args.self.now)
     c.in-I64.number _ _ _ (ap view c.in-I64.is ∙ search (rules, the_lemmas))
-    (search (rules, ints, to_z-of_z)) c.put_integer.ensures.tokens
+    c.put_integer.ensures.tokens (search (rules, ints, to_z-of_z))
 
 pub returns-in-I64-clause-grown : goal.returns-in-I64-clause-grown
 returns-in-I64-clause-grown c = so_on_ok _ (grows_refl (tables_of c.args.names.now))
 
 pub returns-in-F64-clause-tokens : goal.returns-in-F64-clause-tokens
 returns-in-F64-clause-tokens c = λ none.
-    kind_put (as_pools c.args.strings.now c.args.stacks.now) c.put_float.result (view c.args.self.now)
+    kind_put _ (as_pools c.args.strings.now c.args.stacks.now) c.put_float.result (view c.args.self.now)
     (values.float c.in-F64.bits) _ _ _ (ap view c.in-F64.is ∙ search (rules, the_lemmas)) (λ j so. so)
     c.put_float.ensures.tokens
 
@@ -38,7 +38,7 @@ returns-in-F64-clause-grown c = so_on_ok _ (grows_refl (tables_of c.args.names.n
 
 pub returns-in-Bool-clause-tokens : goal.returns-in-Bool-clause-tokens
 returns-in-Bool-clause-tokens c = λ none.
-    json_put (as_pools c.args.strings.now c.args.stacks.now) c.boolean.result (view c.args.self.now)
+    json_put _ (as_pools c.args.strings.now c.args.stacks.now) c.boolean.result (view c.args.self.now)
     (values.boolean c.in-Bool.flag) (boolean c.in-Bool.flag) _ _ (ap view c.in-Bool.is ∙ search (rules, the_lemmas)) refl
     c.boolean.ensures.ok
 
@@ -48,39 +48,39 @@ returns-in-Bool-clause-grown c = so_on_ok _ (grows_refl (tables_of c.args.names.
 pub returns-in-String-clause-tokens : goal.returns-in-String-clause-tokens
 returns-in-String-clause-tokens c = λ none.
     let same : string_bytes c.in-String.text ≡ c.as_str.result.now = search rules in
-    kind_put (as_pools c.args.strings.now c.args.stacks.now) c.put_text.result (view c.args.self.now)
+    kind_put _ (as_pools c.args.strings.now c.args.stacks.now) c.put_text.result (view c.args.self.now)
     (values.text c.as_str.result.now) _ _ _
     (ap view c.in-String.is ∙ search (rules, the_lemmas) ∙ ap values.text same) (λ j so. so) c.put_text.ensures.tokens
 
 pub returns-in-Bytes-clause-tokens : goal.returns-in-Bytes-clause-tokens
 returns-in-Bytes-clause-tokens c = λ none.
     let same : c.in-Bytes.bytes.items ≡ c.as_slice.result.now = search rules in
-    kind_put (as_pools c.args.strings.now c.args.stacks.now) c.put_bytes.result (view c.args.self.now)
+    kind_put _ (as_pools c.args.strings.now c.args.stacks.now) c.put_bytes.result (view c.args.self.now)
     (values.bytes c.as_slice.result.now) _ _ _
     (ap view c.in-Bytes.is ∙ search (rules, the_lemmas) ∙ ap values.bytes same) (λ j so. so) c.put_bytes.ensures.tokens
 
 pub returns-in-PooledString-clause-tokens : goal.returns-in-PooledString-clause-tokens
 returns-in-PooledString-clause-tokens c = λ none.
-    kind_put (as_pools c.args.strings.now c.args.stacks.now) c.put_pooled_text.result (view c.args.self.now)
+    kind_put _ (as_pools c.args.strings.now c.args.stacks.now) c.put_pooled_text.result (view c.args.self.now)
     (values.pooled_text c.in-PooledString.id.0) _ _ _ (ap view c.in-PooledString.is ∙ search (rules, the_lemmas)) (λ j so. so)
     c.put_pooled_text.ensures.tokens
 
 pub returns-in-StackFrames-clause-tokens : goal.returns-in-StackFrames-clause-tokens
 returns-in-StackFrames-clause-tokens c = λ none.
     let same : c.in-StackFrames.frames.0.items ≡ c.as_slice-in-StackFrames.result.now = search rules in
-    kind_put (as_pools c.args.strings.now c.args.stacks.now) c.put_stack.result (view c.args.self.now)
+    kind_put _ (as_pools c.args.strings.now c.args.stacks.now) c.put_stack.result (view c.args.self.now)
     (values.stack c.as_slice-in-StackFrames.result.now) _ _ _
     (ap view c.in-StackFrames.is ∙ search (rules, the_lemmas) ∙ ap values.stack same) (λ j so. so) c.put_stack.ensures.tokens
 
 pub returns-in-PooledStackFrames-clause-tokens : goal.returns-in-PooledStackFrames-clause-tokens
 returns-in-PooledStackFrames-clause-tokens c = λ none.
-    kind_put (as_pools c.args.strings.now c.args.stacks.now) c.put_pooled_stack.result (view c.args.self.now)
+    kind_put _ (as_pools c.args.strings.now c.args.stacks.now) c.put_pooled_stack.result (view c.args.self.now)
     (values.pooled_stack c.in-PooledStackFrames.id.0) _ _ _ (ap view c.in-PooledStackFrames.is ∙ search (rules, the_lemmas)) (λ j so. so)
     c.put_pooled_stack.ensures.tokens
 
 pub returns-in-Varint-clause-tokens : goal.returns-in-Varint-clause-tokens
 returns-in-Varint-clause-tokens c = λ none.
-    json_put (as_pools c.args.strings.now c.args.stacks.now) c.put_natural.result (view c.args.self.now)
+    json_put _ (as_pools c.args.strings.now c.args.stacks.now) c.put_natural.result (view c.args.self.now)
     (values.number c.in-Varint.number) (natural_json c.in-Varint.number) _ _ (ap view c.in-Varint.is ∙ search (rules, the_lemmas)) refl
     c.put_natural.ensures.tokens
 
@@ -90,13 +90,13 @@ returns-in-Varint-clause-grown c = so_on_ok _ (grows_refl (tables_of c.args.name
 pub returns-in-StringMap-clause-tokens : goal.returns-in-StringMap-clause-tokens
 returns-in-StringMap-clause-tokens c = λ none.
     let same : c.in-StringMap.pairs.items ≡ c.as_slice-in-StringMap.result.now = search rules in
-    kind_put (as_pools c.args.strings.now c.args.stacks.now) c.put_texts.result (view c.args.self.now)
+    kind_put _ (as_pools c.args.strings.now c.args.stacks.now) c.put_texts.result (view c.args.self.now)
     (seen_texts c.as_slice-in-StringMap.result.now) _ _ _
     (ap view c.in-StringMap.is ∙ search (rules, the_lemmas) ∙ ap seen_texts same) (λ j so. so) c.put_texts.ensures.tokens
 
 pub returns-in-None-clause-tokens : goal.returns-in-None-clause-tokens
 returns-in-None-clause-tokens c = λ none.
-    json_put (as_pools c.args.strings.now c.args.stacks.now) c.null.result (view c.args.self.now) values.absent null _ _
+    json_put _ (as_pools c.args.strings.now c.args.stacks.now) c.null.result (view c.args.self.now) values.absent null _ _
     (ap view c.in-None.is ∙ search (rules, the_lemmas)) refl c.null.ensures.ok
 
 pub returns-in-None-clause-grown : goal.returns-in-None-clause-grown
