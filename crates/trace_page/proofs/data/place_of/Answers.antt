@@ -1,4 +1,5 @@
-use Rattle.std.proofs.Common.{◌≡◌, Some, true, sym, rules}
+use Rattle.std.proofs.Common.{◌≡◌, Some, true, ap, sym, ◌∙◌, rules}
+use Rattle.std.proofs.lemmas.Option.{slice_get-get_or}
 use Rattle.std.specs.Prelude.{slice_get}
 use Rattle.trace_wire.specs.Schemas.{same_entry}
 use Rattle.trace_wire.proofs.SameEntries.{same_entry-Decides}
@@ -8,7 +9,9 @@ use Rattle.trace_page.proofs.data.place_of.Goals as goal
 pub returns-then-eq-clause-found : goal.returns-then-eq-clause-found
 returns-then-eq-clause-found c =
     let s = c.in-Some.guessed.now in
-    let at : slice_get c.args.schemas.now c.args.guess ≡ Some s = sym c.in-Some.ensures.lookup in
+    let found = c.in-Some.ensures.lookup in
+    let at : slice_get c.args.schemas.now c.args.guess ≡ Some s
+    = slice_get-get_or c.args.schemas.now c.args.guess s found.3.0 ∙ ap Some (sym found.1) in
     let same : same_entry s.entry c.args.entry.now ≡ true = search rules in
     (s, at, (same_entry-Decides s.entry c.args.entry.now).0 same)
 
