@@ -1,6 +1,7 @@
 use Rattle.std.proofs.Common.{◌≡◌, ℕ, List, Vec, rules, ap, refl, ◌∙◌, string_bytes}
 use Rattle.std.specs.declared.alloc.Global.{Global}
 use Rattle.std.proofs.lemmas.Int.{ints, to_z-of_z}
+use Rattle.std.specs.Int.{w64, cast_signed, cast_unsigned}
 use Rattle.json.specs.Json.{boolean, null}
 use Rattle.trace_values.specs.Values.{Value}
 use Rattle.trace_values.specs.Values as values
@@ -21,7 +22,7 @@ seen_texts ps = values.texts (text_pairs_view ps)
 pub returns-in-I64-clause-tokens : goal.returns-in-I64-clause-tokens
 returns-in-I64-clause-tokens c = λ none.
     integer_put _ (as_pools c.args.strings.now c.args.stacks.now) c.put_integer.result (view c.args.self.now)
-    c.in-I64.number _ _ _ (ap view c.in-I64.is ∙ search (rules, the_lemmas))
+    c.in-I64.number (cast_signed w64 (cast_unsigned w64 c.in-I64.number)) _ _ (ap view c.in-I64.is ∙ search (rules, the_lemmas))
     c.put_integer.ensures.tokens (search (rules, ints, to_z-of_z))
 
 pub returns-in-I64-clause-grown : goal.returns-in-I64-clause-grown
