@@ -178,8 +178,9 @@ class Tab:
         for letter in text:
             self.press(letter)
 
-    def mouse(self, kind, x, y, shift=False, **more):
-        self.send("Input.dispatchMouseEvent", type=kind, x=x, y=y, modifiers=8 if shift else 0, **more)
+    def mouse(self, kind, x, y, shift=False, control=False, **more):
+        held = (8 if shift else 0) + (2 if control else 0)
+        self.send("Input.dispatchMouseEvent", type=kind, x=x, y=y, modifiers=held, **more)
 
     def click(self, x, y, count=1):
         for kind in ("mouseMoved", "mousePressed", "mouseReleased"):
@@ -193,8 +194,13 @@ class Tab:
             self.mouse("mouseMoved", *place, shift, button="left", buttons=1)
         self.mouse("mouseReleased", *end, shift, button="left", clickCount=1)
 
-    def wheel(self, x, y, down, shift=False):
-        self.mouse("mouseWheel", x, y, shift, deltaX=0, deltaY=down)
+    def wheel(self, x, y, down, shift=False, control=False):
+        self.mouse("mouseWheel", x, y, shift, control, deltaX=0, deltaY=down)
+
+    def touch(self, kind, *fingers):
+        """Fingers, each with its number and its place, that begin to touch, move or end."""
+        points = [{"id": number, "x": x, "y": y} for number, x, y in fingers]
+        self.send("Input.dispatchTouchEvent", type=kind, touchPoints=points)
 
     def picture(self, path):
         """A picture of what is seen."""

@@ -26,6 +26,21 @@ def is_number(kind):
     return kind in ("I64", "Varint", "F64")
 
 
+def unquoted(token):
+    """A word without its quotes: letter by letter, two quotes inside of quotes being one of the word."""
+    word, at, is_inside = "", 0, False
+    while at < len(token):
+        if token[at] != '"':
+            word += token[at]
+        elif is_inside and token[at + 1:at + 2] == '"':
+            word += '"'
+            at += 1
+        else:
+            is_inside = not is_inside
+        at += 1
+    return word
+
+
 class Event:
     """An event of some data, by the rules of viewer/DATA.md."""
 
@@ -145,12 +160,12 @@ class Model:
     def words(self, query):
         names = {"event", "track", "time", "length"}
         names |= {field["name"] for schema in self.data["schemas"] for field in schema["fields"]}
-        for token in re.findall(r'(?:[^\s"]|"[^"]*"?)+', query):
-            parts = re.fullmatch(r'([^"=<>!]+|"[^"]+")(!=|<=|>=|=|<|>)(.*)', token, re.S)
-            if parts and parts[1].replace('"', "") in names:
-                yield parts[1].replace('"', ""), parts[2], parts[3].replace('"', "").lower()
-            elif token.replace('"', ""):
-                yield None, token.startswith('"'), token.replace('"', "").lower()
+        for token in re.findall(r'(?:[^\s"]|"(?:[^"]|"")*"?)+', query):
+            parts = re.fullmatch(r'([^"=<>!]+|"(?:[^"]|"")+")(!=|<=|>=|=|<|>)(.*)', token, re.S)
+            if parts and unquoted(parts[1]) in names:
+                yield unquoted(parts[1]), parts[2], unquoted(parts[3]).lower()
+            elif unquoted(token):
+                yield None, token.startswith('"'), unquoted(token).lower()
 
     def found(self, query):
         words = list(self.words(query))

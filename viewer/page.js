@@ -412,12 +412,17 @@ function numberWord(text) {
   return { digits: parts[1], number: Number(parts[1]), scale: TIMES[parts[2]] ?? SIZES[parts[2]] ?? null };
 }
 
+// A word without its quotes; two quotes inside of quotes are one of the word.
+const unquoted = (text) =>
+  text.replace(/"((?:[^"]|"")*)"?/g, (_, inner) => inner.replaceAll('""', '"'));
+const inQuotes = (text) => `"${text.replaceAll('"', '""')}"`;
+
 function makeWord(token) {
-  const text = token.replaceAll('"', "");
-  const parts = /^([^"=<>!]+|"[^"]+")(!=|<=|>=|=|<|>)(.*)$/.exec(token);
+  const text = unquoted(token);
+  const parts = /^([^"=<>!]+|"(?:[^"]|"")+")(!=|<=|>=|=|<|>)(.*)$/s.exec(token);
   if (parts) {
-    const name = parts[1].replaceAll('"', "");
-    const value = parts[3].replaceAll('"', "");
+    const name = unquoted(parts[1]);
+    const value = unquoted(parts[3]);
     const known = ["event", "track", "time", "length"].includes(name);
     if (known || trace.schemas.some((schema) => schema.fields.some((field) => field.name === name)))
       return { name, operator: parts[2], text: value.toLowerCase(), number: numberWord(value) };
@@ -427,7 +432,8 @@ function makeWord(token) {
 
 // The words of a search; those between quotes may have spaces.
 function wordsOf(query) {
-  return (query.match(/(?:[^\s"]|"[^"]*"?)+/g) ?? []).map(makeWord).filter((word) => word.name || word.text);
+  const tokens = query.match(/(?:[^\s"]|"(?:[^"]|"")*"?)+/g) ?? [];
+  return tokens.map(makeWord).filter((word) => word.name || word.text);
 }
 
 // Which events all words find: a byte an event; nothing where there is no word.
@@ -704,6 +710,7 @@ const timeline = {
   hover: NONE,
   lane: NONE, // the index of the lane that was clicked or gone to
   drag: null,
+  fingers: new Map(), // what touches it: the last event of each pointer
   density: null, // how many events each column of the overview has
 };
 
@@ -1111,10 +1118,40 @@ function dragAt({ offsetX, offsetY, shiftKey, clientY }) {
   return { ...drag, does: "pan", isClick: true };
 }
 
-function moveDrag({ offsetX, clientY }) {
+// The same of a pointer that touches it: the second finger begins to pinch.
+function touchAt(pointer) {
+  timeline.fingers.set(pointer.pointerId, pointer);
+  if (timeline.fingers.size !== 2) return dragAt(pointer);
+  if (timeline.drag?.does === "range") setRange(chosen.range);
+  return { does: "pinch", times: [...timeline.fingers.values()].map(({ offsetX }) => timeAt(offsetX)) };
+}
+
+// Keeps the times that two fingers took hold of where the fingers are.
+function pinch(pointer) {
+  const { drag, fingers, gutter, width } = timeline;
+  if (!fingers.has(pointer.pointerId)) return;
+  fingers.set(pointer.pointerId, pointer);
+  const [a, b] = [...fingers.values()].map(({ offsetX }) => offsetX);
+  if (Math.abs(a - b) < 8 || Math.sign(b - a) !== Math.sign(drag.times[1] - drag.times[0])) return;
+  const each = (drag.times[1] - drag.times[0]) / (b - a);
+  const from = drag.times[0] - (a - gutter) * each;
+  look(from, from + (width - gutter) * each);
+}
+
+// A finger that is left goes on by dragging.
+function endPinch(pointer) {
+  timeline.fingers.delete(pointer.pointerId);
+  const [left] = timeline.fingers.values();
+  const drag = left ? dragAt(left) : null;
+  timeline.drag = drag && { ...drag, does: "pan", isClick: false };
+}
+
+function moveDrag(pointer) {
+  const { offsetX, clientY } = pointer;
   const { drag } = timeline;
   const room = timeline.width - timeline.gutter;
-  if (drag.does === "overview") {
+  if (drag.does === "pinch") pinch(pointer);
+  else if (drag.does === "overview") {
     const whole = wholeSpan();
     const middle = whole.from + (offsetX - timeline.gutter) / room * (whole.to - whole.from);
     look(middle - (drag.to - drag.from) / 2, middle + (drag.to - drag.from) / 2);
@@ -1134,6 +1171,8 @@ function moveDrag({ offsetX, clientY }) {
 
 function endDrag(pointer) {
   const { drag } = timeline;
+  if (drag?.does === "pinch") return endPinch(pointer);
+  timeline.fingers.delete(pointer.pointerId);
   timeline.drag = null;
   if (drag?.does === "pan" && drag.isClick) {
     timeline.lane = trace.lanes.indexOf(laneAt(pointer.offsetY));
@@ -1169,12 +1208,20 @@ function hideTip() {
 }
 
 function wheelTimeline(wheel) {
+  if (wheel.ctrlKey) return wheelPinch(wheel);
   if (wheel.offsetX <= timeline.gutter && !wheel.shiftKey) return; // the box scrolls
   wheel.preventDefault();
   const lines = wheel.deltaMode === 1 ? 16 : 1;
   const across = wheel.shiftKey ? wheel.deltaX || wheel.deltaY : wheel.deltaX;
   if (wheel.shiftKey || Math.abs(wheel.deltaX) > Math.abs(wheel.deltaY)) return pan(across * lines / timeline.width);
   zoom(timeAt(wheel.offsetX), Math.exp(Math.max(-240, Math.min(240, wheel.deltaY * lines)) / 400));
+}
+
+// Pinching a touchpad is told as a wheel with Ctrl, whose steps are small.
+function wheelPinch(wheel) {
+  wheel.preventDefault();
+  const time = timeAt(Math.max(timeline.gutter, wheel.offsetX));
+  zoom(time, Math.exp(Math.max(-60, Math.min(60, wheel.deltaY)) / 100));
 }
 
 // The index of the lane that the keys are in: the one that was clicked or gone to, where it has the selected event.
@@ -1231,14 +1278,17 @@ function startTimeline() {
   const { canvas, box } = timeline;
   canvas.addEventListener("pointerdown", (pointer) => {
     if (pointer.button !== 0) return;
-    timeline.drag = dragAt(pointer);
+    timeline.drag = pointer.pointerType === "touch" ? touchAt(pointer) : dragAt(pointer);
     if (timeline.drag) canvas.setPointerCapture(pointer.pointerId);
     if (timeline.drag?.does === "overview") moveDrag(pointer);
     hideTip();
   });
   canvas.addEventListener("pointermove", (pointer) => (timeline.drag ? moveDrag(pointer) : hover(pointer)));
   canvas.addEventListener("pointerup", endDrag);
-  canvas.addEventListener("pointercancel", () => { timeline.drag = null; });
+  canvas.addEventListener("pointercancel", (pointer) => {
+    timeline.fingers.delete(pointer.pointerId);
+    timeline.drag = null;
+  });
   canvas.addEventListener("pointerleave", () => hover(null));
   canvas.addEventListener("dblclick", ({ offsetX, offsetY }) => {
     if (eventAt(offsetX, offsetY) !== NONE) fit();
@@ -1379,18 +1429,24 @@ function scrollToRow(first, last) {
 }
 
 function drawTableHead() {
-  const head = table.box.querySelector("thead tr");
-  head.replaceChildren(...table.columns.map((column) => {
+  fillHead(table.box.querySelector("thead tr"), table.columns, table.order, sortBy);
+}
+
+// Shows columns in the head of a list, whose titles order it. The title that has the keys keeps them.
+function fillHead(head, columns, order, sort) {
+  const at = [...head.children].indexOf(document.activeElement.parentElement);
+  head.replaceChildren(...columns.map((column) => {
     const cell = make("th", { className: column.isNumber ? "number" : "", scope: "col" });
-    const isSorted = column.id === table.order.id;
-    if (isSorted) cell.setAttribute("aria-sort", table.order.isDown ? "descending" : "ascending");
+    const isSorted = column.id === order.id;
+    if (isSorted) cell.setAttribute("aria-sort", order.isDown ? "descending" : "ascending");
     if (column.width) cell.style.width = `${column.width}px`;
     const title = make("bdi", {}, shown(column.title, 60));
     const button = make("button", { type: "button", disabled: !column.key && !column.ranks }, title);
-    button.addEventListener("click", () => sortBy(column.id));
+    button.addEventListener("click", () => sort(column.id));
     cell.append(button);
     return cell;
   }));
+  head.children[at]?.firstElementChild.focus();
 }
 
 function sortBy(id) {
@@ -1668,38 +1724,76 @@ function startFlame() {
 
 // ---- The summary --------------------------------------------------------------------------------------------------
 
-const summary = { stale: true };
+const summary = {
+  stale: true,
+  order: { id: null, isDown: false }, // without a column schemas stand by their first events
+};
 
-function drawSummary() {
-  if (!summary.stale) return;
-  summary.stale = false;
+// How the summary shows and orders schemas.
+function summaryColumns() {
   const isPart = chosen.found !== null || chosen.range !== null;
   const hasBytes = trace.schemas.some((schema) => schema.bytes !== null);
-  const numbers = ["Events", ...(isPart ? ["Listed"] : []), "First", "Last", ...(hasBytes ? ["Bytes"] : [])];
-  const [head, body] = byId("summary").querySelectorAll("thead tr, tbody");
-  head.replaceChildren(...["Schema", ...numbers, "Fields"].map((title) =>
-    make("th", { className: numbers.includes(title) ? "number" : "", scope: "col" }, title)));
-  body.replaceChildren(...trace.schemas.slice(0, MOST_LINES).map((schema) => summaryRow(schema, isPart, hasBytes)));
-  const rest = trace.schemas.length - MOST_LINES;
-  const text = rest > 0 ? `and ${grouped(rest)} more` : trace.count === 0 ? "This trace has no events." : "";
-  if (text) body.append(make("tr", {}, make("td", { className: "empty", colSpan: numbers.length + 2 }, text)));
+  const number = (id, title, key, text) => ({ id, title, isNumber: true, key, nodes: (it) => [text(it)] });
+  return [
+    { id: "schema", title: "Schema", key: (it) => it.name, nodes: schemaNodes },
+    number("events", "Events", (it) => it.count, (it) => grouped(it.count)),
+    ...(isPart ? [number("listed", "Listed", (it) => it.listed, (it) => grouped(it.listed))] : []),
+    number("first", "First", (it) => trace.time[it.first], (it) => timeCell(it.first)),
+    number("last", "Last", (it) => trace.time[it.last], (it) => timeCell(it.last)),
+    ...(hasBytes ? [number("bytes", "Bytes", (it) => Number(it.bytes ?? -1), bytesCell)] : []),
+    { id: "fields", title: "Fields", nodes: fieldNames },
+  ];
 }
 
-function summaryRow(schema, isPart, hasBytes) {
-  const number = (text) => make("td", { className: "number" }, text);
+const bytesCell = (schema) => (schema.bytes === null ? "" : bytesText(Number(schema.bytes)));
+
+// The schema's name, which searches for its events.
+function schemaNodes(schema) {
   const swatch = make("span", { className: "swatch" });
   swatch.style.background = colourOf(schema.group ?? schema.name);
   const button = make("button", { type: "button", title: "Search for its events" }, isolated(schema.name, 120));
   button.addEventListener("click", () => {
-    ask(`event="${schema.name.replaceAll('"', "")}"`);
+    ask(`event=${inQuotes(schema.name)}`);
     show("table");
   });
-  const fields = schema.fields.slice(0, MOST_COLUMNS).map((field) => make("span", {},
-    isolated(field.name, 60), ` ${field.type}${field.unit ? ` in ${shown(field.unit, 30)}` : ""}`));
-  const bytes = schema.bytes === null ? "" : bytesText(Number(schema.bytes));
-  return make("tr", {}, make("td", {}, swatch, button), number(grouped(schema.count)),
-    ...(isPart ? [number(grouped(schema.listed))] : []), number(timeCell(schema.first)), number(timeCell(schema.last)),
-    ...(hasBytes ? [number(bytes)] : []), make("td", {}, ...fields.flatMap((it, at) => (at ? [", ", it] : [it]))));
+  return [swatch, button];
+}
+
+function fieldNames(schema) {
+  return schema.fields.slice(0, MOST_COLUMNS).flatMap((field, at) => [at ? ", " : "", make("span", {},
+    isolated(field.name, 60), ` ${field.type}${field.unit ? ` in ${shown(field.unit, 30)}` : ""}`)]);
+}
+
+// The schemas as the summary's head orders them.
+function orderedSchemas(columns) {
+  const { id, isDown } = summary.order;
+  const key = columns.find((it) => it.id === id)?.key;
+  const way = isDown ? -1 : 1;
+  const order = (a, b) => (key(a) < key(b) ? -way : key(a) > key(b) ? way : a.index - b.index);
+  return key ? [...trace.schemas].sort(order) : trace.schemas;
+}
+
+function drawSummary() {
+  if (!summary.stale) return;
+  summary.stale = false;
+  const columns = summaryColumns();
+  const [head, body] = byId("summary").querySelectorAll("thead tr, tbody");
+  fillHead(head, columns, summary.order, sortSummary);
+  const row = (schema) => make("tr", {}, ...columns.map((column) =>
+    make("td", { className: column.isNumber ? "number" : "" }, ...column.nodes(schema))));
+  body.replaceChildren(...orderedSchemas(columns).slice(0, MOST_LINES).map(row));
+  const rest = trace.schemas.length - MOST_LINES;
+  const text = rest > 0 ? `and ${grouped(rest)} more` : trace.count === 0 ? "This trace has no events." : "";
+  if (text) body.append(make("tr", {}, make("td", { className: "empty", colSpan: columns.length }, text)));
+}
+
+// Orders the summary by a column: up, then down, and then by first events again.
+function sortSummary(id) {
+  const { order } = summary;
+  const isAgain = order.id === id;
+  summary.order = isAgain && order.isDown ? { id: null, isDown: false } : { id, isDown: isAgain };
+  summary.stale = true;
+  drawSoon();
 }
 
 // ---- The details of an event --------------------------------------------------------------------------------------

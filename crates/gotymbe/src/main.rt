@@ -1,8 +1,9 @@
 //! The program `gotymbe` (docs/TOOLS.md): checks, shows, counts, saves, joins, cuts and follows traces, and writes
-//! their events as JSON and as tables. What it decides stands in the crates `gotymbe_words` and `gotymbe_plan`; here
-//! that is joined.
+//! their events as JSON, as tables and for viewers. What it decides stands in the crates `gotymbe_words` and
+//! `gotymbe_plan`; here that is joined.
 #![tactic(auto)]
 
+mod clocks;
 mod events;
 mod follow;
 mod input;
@@ -13,7 +14,9 @@ mod tables;
 mod tasks;
 
 use crate::tasks::Call;
-use gotymbe_words::asked::{status_by, task_of, what_is_asked};
+use clap::error::ErrorKind;
+use gotymbe_plan::moments::{moment_given, push_no_moment};
+use gotymbe_words::asked::{Asked, status_by, task_of, what_is_asked};
 use gotymbe_words::command::command;
 use std::env;
 use std::fs::File;
@@ -52,10 +55,47 @@ fn run(
         Some((name, given)) => match task_of(name) {
             Some(task) => {
                 let asked = what_is_asked(alloc, task, given)?;
-                tasks::carry_out(rt, &Call { asked, terminal })
+                carry_out(rt, asked, terminal)
             }
             None => Ok(FAILED),
         },
         None => Ok(FAILED),
     }
+}
+
+// Does what is asked for, and answers the status; where a text that is given for a time says none, it tells that alone.
+fn carry_out(
+    rt: &(impl AllocGlobal + Files<File = File> + Input + Print + Eprint + Clock),
+    asked: Asked<'_>,
+    terminal: bool,
+) -> anyhow::Result<u8> {
+    let from = match moment_given(asked.from) {
+        Ok(from) => from,
+        Err(text) => return tell_no_moment(rt, "from", text),
+    };
+    let to = match moment_given(asked.to) {
+        Ok(to) => to,
+        Err(text) => return tell_no_moment(rt, "to", text),
+    };
+    tasks::carry_out(
+        rt,
+        &Call {
+            asked,
+            from,
+            to,
+            terminal,
+        },
+    )
+}
+
+// Tells that a text says no time, and answers the status.
+fn tell_no_moment(
+    rt: &(impl AllocGlobal + Eprint),
+    option: &str,
+    text: &str,
+) -> anyhow::Result<u8> {
+    let mut line = String::new(rt.alloc());
+    push_no_moment(&mut line, option, text)?;
+    let _ = eprint!(rt; "{line}");
+    Ok(status_by(ErrorKind::ValueValidation))
 }

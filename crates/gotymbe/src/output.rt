@@ -167,9 +167,9 @@ impl Place {
         match self.way {
             Way::Beside => {
                 file.sync_all()?;
-                let linked = fs::hard_link(rt, beside, name);
-                fs::remove_file(rt, beside)?;
-                linked
+                // (what can't be linked stays beside)
+                fs::hard_link(rt, beside, name)?;
+                fs::remove_file(rt, beside)
             }
             Way::InPlace => {
                 file.sync_all()?;

@@ -1,10 +1,11 @@
 //! Frames of an input that is read in pieces.
 
+use crate::clocks::zero_said;
 use crate::input::{open, unread};
 use crate::tasks::Call;
 use dial9_trace_format::decoder::{DecodedFrame, FeedDecoder};
 use gotymbe_plan::ending::{Ending, lacks_cause};
-use gotymbe_plan::filter::Filter;
+use gotymbe_plan::picking::Picker;
 use std::alloc::Global;
 use std::fs::File;
 use std::io::{ErrorKind, Read};
@@ -58,23 +59,22 @@ impl FrameSink for Nothing {
     }
 }
 
-/// Which events are asked for, and how many more are taken.
+/// The events that are asked for, as they come.
 #[derive(Drop)]
 pub(crate) struct Picked<'n> {
-    pub(crate) filter: Filter<'n>,
-    pub(crate) left: u64,
+    picker: Picker<'n>,
 }
 
 impl<'n> Picked<'n> {
-    /// All that a call asks for.
-    pub(crate) fn of(call: &'n Call<'_>) -> Picked<'n> {
+    /// All that a call asks for of a trace, by its clock's zero, if that is known.
+    pub(crate) fn of(call: &'n Call<'_>, zero: Option<i64>) -> Picked<'n> {
         Picked {
-            filter: call.filter(),
-            left: call.asked.limit.unwrap_or(u64::MAX),
+            picker: Picker::new(call.wanted(), zero, call.asked.limit),
         }
     }
 
-    /// The event that a frame is, if it is one that is asked for; an ending where as many were taken as are asked for.
+    /// The event that a frame is, if it is one that is asked for; an ending where as many were taken as are asked for,
+    /// and where a date is asked for and no frame so far says a clock.
     pub(crate) fn pick<'f>(
         &mut self,
         frame: &'f DecodedFrame,
@@ -86,16 +86,25 @@ impl<'n> Picked<'n> {
             decoder.stack_pool(),
         );
         let Some(event) = OwnedEvent::of_frame(frame, registry, strings, stacks) else {
+            self.learn(frame, decoder);
             return Ok(None);
         };
-        if self.left == 0 {
-            return Err(Ending::Whole);
+        if self.picker.pick(event.schema.name(), event.timestamp_ns)? {
+            return Ok(Some(event));
         }
-        if !self.filter.wants(event.schema.name(), event.timestamp_ns) {
-            return Ok(None);
+        Ok(None)
+    }
+
+    /// An ending where as many events were taken as are asked for: what comes after them is not waited for.
+    pub(crate) fn go_on(&self) -> Result<(), Ending> {
+        self.picker.go_on()
+    }
+
+    // Learns the clock that a frame says, where a date waits for one.
+    fn learn(&mut self, frame: &DecodedFrame, decoder: &FeedDecoder) {
+        if self.picker.waits() {
+            self.picker.learn(zero_said(frame, decoder));
         }
-        self.left -= 1;
-        Ok(Some(event))
     }
 }
 
@@ -121,7 +130,7 @@ impl FrameSink for Tally<'_> {
             return Ok(());
         };
         match self.stats.add_owned(&event, bytes) {
-            Ok(()) => Ok(()),
+            Ok(()) => self.picked.go_on(),
             Err(_) => Err(Ending::OutOfMemory),
         }
     }
@@ -220,8 +229,8 @@ fn read_frames<R: Read, S: FrameSink>(alloc: Global, input: &mut R, sink: &mut S
     }
 }
 
-// Feeds so many bytes of an input to a decoder, or all that it has, and answers how reading ended.
-fn feed<R: Read, S: FrameSink>(
+/// Feeds so many bytes of an input to a decoder, or all that it has, and answers how reading ended.
+pub(crate) fn feed<R: Read, S: FrameSink>(
     input: &mut R,
     decoder: &mut FeedDecoder,
     sink: &mut S,

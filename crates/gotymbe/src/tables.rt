@@ -211,7 +211,7 @@ impl<'c, 'r, R: AllocGlobal + Files<File = File>> Tables<'c, 'r, R> {
             Ok(()) => Ok(place),
             Err(ending) => {
                 place.give_up(self.rt);
-                self.failed = Some(grown(String::from_str(self.rt.alloc(), name))?);
+                self.failed = Some(grown(format!(in self.rt.alloc(); "{}/{name}", self.folder))?);
                 Err(ending)
             }
         }
@@ -271,7 +271,8 @@ impl<R: AllocGlobal + Files<File = File>> FrameSink for Tables<'_, '_, R> {
             return Ok(());
         };
         let place = self.place_for(&event)?;
-        self.push_row(place, &event)
+        self.push_row(place, &event)?;
+        self.picked.go_on()
     }
 
     fn settle(&mut self) -> Result<(), Ending> {

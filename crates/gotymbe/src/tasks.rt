@@ -4,7 +4,8 @@ use crate::input::read_all;
 use crate::merge::merge_all;
 use crate::output::{Noted, Written, begin};
 use gotymbe_plan::ending::{Ending, is_kept, push_message, status_of};
-use gotymbe_plan::filter::Filter;
+use gotymbe_plan::filter::Wanted;
+use gotymbe_plan::moments::{Moment, is_any_date};
 use gotymbe_words::asked::{Asked, Task};
 use std::alloc::AllocError;
 use std::fs::File;
@@ -13,6 +14,7 @@ use std::rt::{Clock, Files};
 use trace_lines::dump::WHOLE;
 use trace_values::leb128::{Plain, TraceWrite};
 
+mod charting;
 mod folding;
 mod following;
 mod paging;
@@ -24,17 +26,24 @@ mod tabling;
 #[derive(Drop)]
 pub(crate) struct Call<'a> {
     pub(crate) asked: Asked<'a>,
+    pub(crate) from: Option<Moment>,
+    pub(crate) to: Option<Moment>,
     pub(crate) terminal: bool,
 }
 
 impl Call<'_> {
     /// Which events are asked for.
-    pub(crate) fn filter(&self) -> Filter<'_> {
-        Filter {
-            from: self.asked.from,
-            to: self.asked.to,
+    pub(crate) fn wanted(&self) -> Wanted<'_> {
+        Wanted {
+            from: self.from,
+            to: self.to,
             names: &self.asked.events,
         }
+    }
+
+    /// Whether a date is asked for.
+    pub(crate) fn has_dates(&self) -> bool {
+        is_any_date(self.from, self.to)
     }
 }
 
@@ -128,6 +137,7 @@ fn write_each<W: TraceWrite + Drop>(
         let (ending, before) = match call.asked.task {
             Task::Salvage => saving::salvage_one(rt, call, name, out)?,
             Task::Cut => (saving::cut_one(rt, call, name, out), WHOLE),
+            Task::Chrome => (charting::chart_one(rt, call, name, out), WHOLE),
             _ => (showing::show_one(rt, call, name, out), WHOLE),
         };
         if let Ending::Unwritten(_) = ending {

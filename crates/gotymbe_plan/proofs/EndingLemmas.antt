@@ -4,7 +4,7 @@ use Rattle.std.proofs.Common.{append_assoc}
 use Rattle.trace_fronts.specs.declared.whole.Stop.{Stop}
 use Rattle.gotymbe_plan.specs.Numbers.{IsGrouped}
 use Rattle.gotymbe_plan.specs.Endings.{AppendsStop, AppendsUnfinished, AppendsReason, AppendsLine}
-use Rattle.gotymbe_plan.specs.Endings.{start_text, cause_text}
+use Rattle.gotymbe_plan.specs.Endings.{start_text, cause_text, error_text}
 use Rattle.std.specs.declared.io.ErrorKind.{ErrorKind}
 use Rattle.gotymbe_plan.specs.declared.ending.Ending.{Ending}
 use Rattle.gotymbe_plan.specs.declared.ending.Ending.TheVariants.{Unread, Unwritten}
@@ -46,17 +46,19 @@ line_appended name ending old a b new (Ok u) begins reason is =
 -- what is told of an error of the input, after what begins, is a reason
 pub unread_appended :
     {E : Type 0} (ending : Ending) (kind : ErrorKind) (said old new : List ℕ) (r : Result (Unit {0}) E) →
-    ending ≡ Unread kind → OnOk r (new ≡ old ++ (codes "cannot be read: " ++ said)) →
+    ending ≡ Unread kind → said ≡ error_text kind → OnOk r (new ≡ old ++ (codes "cannot be read: " ++ said)) →
     OnOk r (AppendsReason ending old new)
-unread_appended ending kind said old new (Err e) ended is = is
-unread_appended ending kind said old new (Ok u) ended is =
-    subst (λ (e : Ending). AppendsReason e old new) (sym ended) (said, is)
+unread_appended ending kind said old new (Err e) ended same is = is
+unread_appended ending kind said old new (Ok u) ended same is =
+    subst (λ (e : Ending). AppendsReason e old new) (sym ended)
+    (is ∙ ap (λ (t : List ℕ). old ++ (codes "cannot be read: " ++ t)) same)
 
 -- the same of an error of the output
 pub unwritten_appended :
     {E : Type 0} (ending : Ending) (kind : ErrorKind) (said old new : List ℕ) (r : Result (Unit {0}) E) →
-    ending ≡ Unwritten kind → OnOk r (new ≡ old ++ (codes "cannot be written: " ++ said)) →
+    ending ≡ Unwritten kind → said ≡ error_text kind → OnOk r (new ≡ old ++ (codes "cannot be written: " ++ said)) →
     OnOk r (AppendsReason ending old new)
-unwritten_appended ending kind said old new (Err e) ended is = is
-unwritten_appended ending kind said old new (Ok u) ended is =
-    subst (λ (e : Ending). AppendsReason e old new) (sym ended) (said, is)
+unwritten_appended ending kind said old new (Err e) ended same is = is
+unwritten_appended ending kind said old new (Ok u) ended same is =
+    subst (λ (e : Ending). AppendsReason e old new) (sym ended)
+    (is ∙ ap (λ (t : List ℕ). old ++ (codes "cannot be written: " ++ t)) same)

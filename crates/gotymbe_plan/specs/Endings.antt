@@ -10,8 +10,9 @@ use Rattle.trace_lines.specs.Dumps.{whole_status, no_header_status, stopped_stat
 use Rattle.trace_fronts.specs.declared.whole.Stop.{Stop}
 use Rattle.gotymbe_plan.specs.declared.ending.Ending.{Ending}
 use Rattle.gotymbe_plan.specs.declared.ending.Ending.TheVariants.{Whole, Stopped, OutOfMemory, Unread, Unwritten}
-use Rattle.gotymbe_plan.specs.declared.ending.Ending.TheVariants.{Unfinished, TooMuch, Dumped}
+use Rattle.gotymbe_plan.specs.declared.ending.Ending.TheVariants.{Unfinished, TooMuch, NoClock, Dumped}
 use Rattle.gotymbe_plan.specs.Numbers.{IsGrouped}
+use Rattle.gotymbe_plan.specs.Names.{told_name}
 
 -- the ending of a front with this stop, or of all bytes
 abbrev pub stop_ending : Option Stop → Ending
@@ -57,6 +58,12 @@ dump_ending status read written =
     else if status == failed_status then failed_ending read written
     else Dumped status
 
+-- a text is ended: memory was not refused, and writing did not fail
+abbrev pub HasTail : Ending → Type 0
+HasTail OutOfMemory = ⊥
+HasTail (Unwritten kind) = ⊥
+HasTail ending = Unit {0}
+
 -- the status of a trace that stops
 abbrev pub stop_status : DecodeErrorKind → ℕ
 stop_status causes.NoHeader = no_header_status
@@ -73,6 +80,7 @@ HasStatus (Unwritten kind) status =
     (kind ≡ errors.BrokenPipe → status ≡ whole_status) × (kind ≢ errors.BrokenPipe → status ≡ failed_status)
 HasStatus (Unfinished place) status = status ≡ stopped_status
 HasStatus TooMuch status = status ≡ failed_status
+HasStatus NoClock status = status ≡ failed_status
 HasStatus (Dumped dump) status = status ≡ dump
 
 -- why no frame stands there
@@ -93,7 +101,21 @@ cause_text causes.InputTooLong = codes "input too long"
 
 -- what stands before a reason: the program and the file
 abbrev pub start_text : List ℕ → List ℕ
-start_text name = codes "gotymbe: " ++ name ++ codes ": "
+start_text name = codes "gotymbe: " ++ told_name name ++ codes ": "
+
+-- what is told of an error of the system
+abbrev pub error_text : ErrorKind → List ℕ
+error_text errors.NotFound = codes "no such file or folder"
+error_text errors.PermissionDenied = codes "permission denied"
+error_text errors.AlreadyExists = codes "is there already (--force writes in its place)"
+error_text errors.IsADirectory = codes "is a folder"
+error_text errors.NotADirectory = codes "a part of the name is no folder"
+error_text errors.StorageFull = codes "no space left"
+error_text errors.ReadOnlyFilesystem = codes "read-only file system"
+error_text errors.FileTooLarge = codes "file too large"
+error_text errors.WriteZero = codes "nothing more is taken"
+error_text errors.OutOfMemory = codes "out of memory"
+error_text kind = codes "input or output error"
 
 -- where a trace stops, and why
 abbrev pub stop_text : List ℕ → DecodeErrorKind → List ℕ
@@ -107,16 +129,21 @@ abbrev pub AppendsUnfinished : ℕ → List ℕ → List ℕ → Type 0
 AppendsUnfinished place old new = (text : List ℕ) × IsGrouped place text
     × (new ≡ old ++ (codes "ends inside the frame at byte " ++ text))
 
--- why reading ended; what is told of an error of the system is not said here
+-- why reading ended
 abbrev pub AppendsReason : Ending → List ℕ → List ℕ → Type 0
 AppendsReason Whole old new = new ≡ old ++ codes "whole"
 AppendsReason (Stopped stop) old new = AppendsStop stop old new
 AppendsReason OutOfMemory old new = new ≡ old ++ codes "out of memory"
-AppendsReason (Unread kind) old new = (said : List ℕ) × (new ≡ old ++ (codes "cannot be read: " ++ said))
-AppendsReason (Unwritten kind) old new = (said : List ℕ) × (new ≡ old ++ (codes "cannot be written: " ++ said))
+AppendsReason (Unread kind) old new = new ≡ old ++ (codes "cannot be read: " ++ error_text kind)
+AppendsReason (Unwritten kind) old new = new ≡ old ++ (codes "cannot be written: " ++ error_text kind)
 AppendsReason (Unfinished place) old new = AppendsUnfinished place old new
 AppendsReason TooMuch old new = new ≡ old ++ codes "adds up to more than 64 bits hold"
+AppendsReason NoClock old new = new ≡ old ++ codes "has no clock that dates can go by"
 AppendsReason (Dumped status) old new = new ≡ old ++ codes "stops where the last line of its dump tells"
+
+-- the line that tells that a file is whole
+abbrev pub whole_line : List ℕ → List ℕ
+whole_line name = told_name name ++ codes ": whole\n"
 
 -- the line of a file: the program, the file and the reason, and a line feed
 abbrev pub AppendsLine : List ℕ → Ending → List ℕ → List ℕ → Type 0

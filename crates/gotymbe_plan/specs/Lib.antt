@@ -2,9 +2,13 @@ pub mod Endings
 pub mod Filters
 pub mod Following
 pub mod Merging
+pub mod Moments
 pub mod Numbers
 pub mod Outputs
+pub mod Picking
 pub mod Progress
 pub mod Statistics
 pub mod LastLines
 pub mod Pages
+pub mod Names
+pub mod OneLine

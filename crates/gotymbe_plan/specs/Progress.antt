@@ -3,6 +3,7 @@ use Rattle.std.specs.Prelude.{◌≡◌, ℕ, ◌*◌, ◌/◌, ◌-◌, ◌^◌
 use Rattle.std.specs.Prelude.{Option, Some, None, IsTrue}
 use Rattle.std.specs.Fmt.{decimal}
 use Rattle.gotymbe_plan.specs.declared.progress.Progress.{Progress}
+use Rattle.gotymbe_plan.specs.Endings.{start_text}
 
 -- of so many bytes and fewer nothing is told: 64 MiB
 abbrev pub small_input : ℕ
@@ -14,9 +15,10 @@ pub record IsToldOf (bytes : ℕ) (terminal quiet : Bool) : Type 0 where
   pub terminal_is : IsTrue terminal
   pub loud : quiet ≡ false
 
--- the seconds that the rest takes at the same pace, where any was read and 64 bits count the product
+-- the seconds that the rest takes at the same pace; they are known where any was read and 64 bits count the product
 pub record IsTimeLeft (done rest elapsed_ms : ℕ) (left : Option ℕ) : Type 0 where
   pub unknown : done ≡ 0 → left ≡ None
+  pub too_much : 2 ^ 64 ≤ elapsed_ms * rest → left ≡ None
   pub known : 0 < done → elapsed_ms * rest < 2 ^ 64 → left ≡ Some (elapsed_ms * rest / done / 1000)
 
 -- all where as many bytes were read as there are, or more; else a part, rounded down
@@ -35,4 +37,4 @@ left_text None = []
 -- the file, how much was read and what is left, and then what has a terminal erase the rest of the line and go back
 abbrev pub progress_text : List ℕ → ℕ → Option ℕ → List ℕ
 progress_text name percent left =
-    (codes "gotymbe: " ++ name ++ codes ": " ++ decimal percent ++ codes " %") ++ left_text left ++ codes "\u{1b}[K\r"
+    (start_text name ++ (decimal percent ++ codes " %")) ++ left_text left ++ codes "\u{1b}[K\r"

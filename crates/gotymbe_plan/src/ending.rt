@@ -6,8 +6,10 @@ ghost use Rattle.trace_lines.specs.Dumps.{failed_status};
 ghost use Rattle.gotymbe_plan.specs.Endings.{stop_ending, IsErrorEnding, dump_ending, HasStatus, stop_status};
 ghost use Rattle.gotymbe_plan.specs.Endings.{IsTold, AppendsLine, AppendsReason, AppendsStop};
 ghost use Rattle.gotymbe_plan.specs.Endings.{start_text, cause_text, rest_ending, LacksCause, IsPlaceAlone};
-ghost use Rattle.gotymbe_plan.specs.Endings.{IsConflict, AppendsUnfinished};
+ghost use Rattle.gotymbe_plan.specs.Endings.{IsConflict, AppendsUnfinished, HasTail, error_text, whole_line};
+ghost use Rattle.gotymbe_plan.specs.OneLine.{AddsLine};
 
+use crate::names::push_name;
 use crate::numbers::push_grouped;
 use dial9_trace_format::decoder::{DecodeError, DecodeErrorKind};
 use std::alloc::AllocError;
@@ -32,6 +34,8 @@ pub enum Ending {
     Unfinished(usize),
     /// A sum of what it holds would pass 2^64 - 1.
     TooMuch,
+    /// A date is asked for, and no clock says which dates its times are.
+    NoClock,
     /// It was dumped up to where it stops, with this status; the last line of the dump tells the place.
     Dumped(u8),
 }
@@ -97,6 +101,7 @@ fn is_place_alone(ending: Ending) -> bool
         Ending::Unread(_) => false,
         Ending::Unwritten(_) => false,
         Ending::TooMuch => false,
+        Ending::NoClock => false,
     }
 }
 
@@ -131,6 +136,14 @@ pub fn is_kept(status: u8) -> bool
     status != FAILED
 }
 
+/// Whether what stands after the entries of a text is written, where reading ended so: unless memory was refused or
+/// writing failed.
+pub fn has_tail(ending: Ending) -> bool
+    ensures { IsTrue result ↔ HasTail ending }
+{
+    !matches!(ending, Ending::OutOfMemory | Ending::Unwritten(_))
+}
+
 /// The status of the program: those of `tracedump`, and that of a whole trace where a pipe was closed that is written
 /// to.
 pub fn status_of(ending: Ending) -> u8
@@ -150,6 +163,7 @@ pub fn status_of(ending: Ending) -> u8
         }
         Ending::Unfinished(_) => STOPPED,
         Ending::TooMuch => FAILED,
+        Ending::NoClock => FAILED,
         Ending::Dumped(status) => status,
     }
 }
@@ -176,16 +190,36 @@ fn stop_status(cause: DecodeErrorKind) -> u8
 }
 
 /// Appends the line that tells how the reading of a file ended, its cause and its place; nothing where it ended well,
-/// or where a pipe was closed that is written to. `AllocError` where a growth was refused.
+/// or where a pipe was closed that is written to. It is one line, whatever the file's name. `AllocError` where a
+/// growth was refused.
+#[tactic(auto, using(crate::proofs::LineLemmas::line_told))]
 pub fn push_message(out: &mut String, name: &str, ending: Ending) -> Result<(), AllocError>
     ensures told { IsTold ending → OnOk result
         (AppendsLine name.now ending (string_bytes out.old) (string_bytes out.new)) }
+    ensures line { IsTold ending → OnOk result
+        (AddsLine (string_bytes out.old) (string_bytes out.new)) }
     ensures untold { ¬ IsTold ending → string_bytes out.new ≡ string_bytes out.old }
 {
     if is_told(ending) {
         return push_line(out, name, ending);
     }
     Ok(())
+}
+
+/// Appends the line that tells that a file is whole. `AllocError` where a growth was refused.
+#[tactic(auto, using(crate::proofs::LineLemmas::whole_told))]
+pub fn push_whole(out: &mut String, name: &str) -> Result<(), AllocError>
+    ensures text { AppendsText (whole_line name.now) out.old out.new result }
+    ensures line { OnOk result (AddsLine (string_bytes out.old) (string_bytes out.new)) }
+{
+    push_whole_line(out, name)
+}
+
+fn push_whole_line(out: &mut String, name: &str) -> Result<(), AllocError>
+    ensures { AppendsText (whole_line name.now) out.old out.new result }
+{
+    push_name(out, name)?;
+    out.push_str(": whole\n")
 }
 
 // Whether anything is told: not where reading ended well, or where a pipe was closed.
@@ -200,6 +234,7 @@ pub(crate) fn is_told(ending: Ending) -> bool
         Ending::Unread(_) => true,
         Ending::Unfinished(_) => true,
         Ending::TooMuch => true,
+        Ending::NoClock => true,
         Ending::Dumped(_) => true,
     }
 }
@@ -219,7 +254,7 @@ pub(crate) fn push_start(out: &mut String, name: &str) -> Result<(), AllocError>
     ensures { AppendsText (start_text name.now) out.old out.new result }
 {
     out.push_str("gotymbe: ")?;
-    out.push_str(name)?;
+    push_name(out, name)?;
     out.push_str(": ")
 }
 
@@ -236,6 +271,7 @@ pub(crate) fn push_reason(out: &mut String, ending: Ending) -> Result<(), AllocE
         Ending::Unwritten(kind) => push_both(out, "cannot be written: ", error_text(kind)),
         Ending::Unfinished(place) => push_unfinished(out, place),
         Ending::TooMuch => out.push_str("adds up to more than 64 bits hold"),
+        Ending::NoClock => out.push_str("has no clock that dates can go by"),
         Ending::Dumped(_) => out.push_str("stops where the last line of its dump tells"),
     }
 }
@@ -296,7 +332,9 @@ fn push_cause(out: &mut String, cause: DecodeErrorKind) -> Result<(), AllocError
 }
 
 // What is told of a kind of error.
-fn error_text(kind: ErrorKind) -> &'static str {
+fn error_text(kind: ErrorKind) -> &'static str
+    ensures { result.now ≡ error_text kind }
+{
     match kind {
         ErrorKind::NotFound => "no such file or folder",
         ErrorKind::PermissionDenied => "permission denied",

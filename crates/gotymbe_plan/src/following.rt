@@ -1,9 +1,10 @@
 //! When a file that grows is read again, and when it is read anew.
 
-ghost use Rattle.std.specs.Prelude.{◌≡◌, ◌↔◌, ◌++◌, IsTrue};
+ghost use Rattle.std.specs.Prelude.{◌↔◌, ◌++◌, IsTrue, OnOk, string_bytes};
 ghost use Rattle.trace_lines.specs.Appending.{AppendsText};
 ghost use Rattle.gotymbe_plan.specs.Following.{HasCome, HasRested, IsAnew, anew_line};
 ghost use Rattle.gotymbe_plan.specs.Endings.{start_text};
+ghost use Rattle.gotymbe_plan.specs.OneLine.{AddsLine};
 
 use crate::ending::push_start;
 use std::alloc::AllocError;
@@ -61,9 +62,18 @@ pub fn is_anew(change: Change) -> bool
     }
 }
 
-/// Appends the line that tells why a file is read anew, and nothing where it is not. `AllocError` where a growth was
-/// refused.
+/// Appends the line that tells why a file is read anew, and nothing where it is not. It is one line, whatever the
+/// file's name. `AllocError` where a growth was refused.
+#[tactic(auto, using(crate::proofs::LineLemmas::anew_told))]
 pub fn push_anew(out: &mut String, name: &str, change: Change) -> Result<(), AllocError>
+    ensures text { AppendsText (anew_line name.now change) out.old out.new result }
+    ensures line { IsAnew change → OnOk result
+        (AddsLine (string_bytes out.old) (string_bytes out.new)) }
+{
+    push_anew_line(out, name, change)
+}
+
+fn push_anew_line(out: &mut String, name: &str, change: Change) -> Result<(), AllocError>
     ensures { AppendsText (anew_line name.now change) out.old out.new result }
 {
     match change {

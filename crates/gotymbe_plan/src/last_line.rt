@@ -24,6 +24,7 @@ pub fn push_last_line(out: &mut String, ending: Ending, position: usize) -> Resu
         Ending::Unread(_) => Ok(()),
         Ending::Unwritten(_) => Ok(()),
         Ending::TooMuch => Ok(()),
+        Ending::NoClock => Ok(()),
         Ending::Dumped(_) => Ok(()),
     }
 }

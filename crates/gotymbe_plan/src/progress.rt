@@ -1,8 +1,11 @@
 //! How far the reading of an input is, as it is told meanwhile.
 
 ghost use Rattle.std.specs.Prelude.{◌≡◌, ◌↔◌, ◌++◌, ◌<◌, ◌*◌, ◌/◌, IsTrue, OnOk, codes, string_bytes};
+ghost use Rattle.std.specs.Fmt.{decimal};
+ghost use Rattle.gotymbe_plan.specs.Endings.{start_text};
 ghost use Rattle.gotymbe_plan.specs.Progress.{IsProgress, IsToldOf, IsTimeLeft, left_text, progress_text};
 
+use crate::ending::push_start;
 use std::alloc::AllocError;
 
 // Of inputs of at most so many bytes nothing is told.
@@ -71,9 +74,18 @@ pub fn push_progress(out: &mut String, name: &str, progress: Progress) -> Result
     ensures { OnOk result (string_bytes out.new
         ≡ string_bytes out.old ++ progress_text name.now progress.percent progress.left_s) }
 {
-    write!(out, "gotymbe: {name}: {} %", progress.percent)?;
+    push_percent(out, name, progress.percent)?;
     push_left(out, progress.left_s)?;
     out.push_str("\x1b[K\r")
+}
+
+// Appends the program, the file, and how many hundredths were read.
+fn push_percent(out: &mut String, name: &str, percent: u64) -> Result<(), AllocError>
+    ensures { OnOk result (string_bytes out.new
+        ≡ string_bytes out.old ++ (start_text name.now ++ (decimal percent ++ codes " %"))) }
+{
+    push_start(out, name)?;
+    write!(out, "{percent} %")
 }
 
 // Appends the time that is left.

@@ -10,7 +10,7 @@ use Rattle.clap.specs.declared.error.kind.ErrorKind.TheVariants.{DisplayHelp, Di
 use Rattle.gotymbe_words.specs.declared.asked.Asked.{Asked}
 use Rattle.gotymbe_words.specs.declared.asked.Task.{Task}
 use Rattle.gotymbe_words.specs.declared.asked.Task.TheVariants.{Check, Dump, Json, Csv, Salvage, Join, Stats}
-use Rattle.gotymbe_words.specs.declared.asked.Task.TheVariants.{Fold, Cut, Follow, Page}
+use Rattle.gotymbe_words.specs.declared.asked.Task.TheVariants.{Fold, Cut, Follow, Page, Chrome}
 
 -- the name of each task
 abbrev pub task_name : Task → List ℕ
@@ -25,6 +25,7 @@ task_name Fold = codes "fold"
 task_name Cut = codes "cut"
 task_name Follow = codes "follow"
 task_name Page = codes "page"
+task_name Chrome = codes "chrome"
 
 -- the task of this name, or none has it
 abbrev pub IsTaskNamed : List ℕ → Option Task → Type 0
@@ -61,8 +62,8 @@ pub record IsAsked (task : Task) (given : ArgMatches) (asked : Asked) : Type 0 w
   pub events : map (λ s. s.now) asked.events.items ≡ values_of given (codes "event")
   pub output : option_map (λ s. s.now) asked.output ≡ first_value (found_of given) (codes "output")
   pub force : IsFlag given (codes "force") asked.force
-  pub from : IsNumberOf given (codes "from") asked.from
-  pub to : IsNumberOf given (codes "to") asked.to
+  pub from : option_map (λ s. s.now) asked.from ≡ first_value (found_of given) (codes "from")
+  pub to : option_map (λ s. s.now) asked.to ≡ first_value (found_of given) (codes "to")
   pub limit : IsNumberOf given (codes "limit") asked.limit
   pub field : option_map (λ s. s.now) asked.field ≡ first_value (found_of given) (codes "field")
   pub resolve : IsFlag given (codes "resolve") asked.resolve

@@ -32,6 +32,8 @@ pub enum Task {
     Follow,
     /// Writes a page that shows traces.
     Page,
+    /// Writes the entries that viewers of Chrome's format open.
+    Chrome,
 }
 
 /// What the words of a call ask for.
@@ -47,10 +49,10 @@ pub struct Asked<'a> {
     pub output: Option<&'a str>,
     /// Whether that may stand in place of a file that is there.
     pub force: bool,
-    /// No event before this time is shown, in nanoseconds of the trace's clock.
-    pub from: Option<u64>,
+    /// No event before this time is shown: a number or a date, as it is given.
+    pub from: Option<&'a str>,
     /// No event after this time is shown.
-    pub to: Option<u64>,
+    pub to: Option<&'a str>,
     /// At most so many events are shown.
     pub limit: Option<u64>,
     /// The name of the field whose numbers are added up; `None` where events are counted.
@@ -65,7 +67,7 @@ pub struct Asked<'a> {
     pub idle: Option<u64>,
     /// Whether nothing is told of how far reading is.
     pub quiet: bool,
-    /// The title of a page.
+    /// The title of a page, or the name of the whole in Chrome's format.
     pub title: Option<&'a str>,
 }
 
@@ -94,6 +96,7 @@ pub fn task_of(name: &str) -> Option<Task>
         "cut" => Some(Task::Cut),
         "follow" => Some(Task::Follow),
         "page" => Some(Task::Page),
+        "chrome" => Some(Task::Chrome),
         _ => None,
     }
 }
@@ -114,8 +117,8 @@ pub fn what_is_asked<'a>(
         events,
         output: given.get_str("output"),
         force: given.get_flag("force"),
-        from: number_of(given, "from"),
-        to: number_of(given, "to"),
+        from: given.get_str("from"),
+        to: given.get_str("to"),
         limit: number_of(given, "limit"),
         field: given.get_str("field"),
         resolve: given.get_flag("resolve"),

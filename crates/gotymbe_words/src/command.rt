@@ -1,14 +1,14 @@
 //! The words that the program takes.
 
 use crate::command::options::{
-    file, files, flag, folder, merge, number, quiet, range, selecting, writing,
+    file, files, flag, folder, merge, number, picking, quiet, range, selecting, writing,
 };
 use clap::{Arg, Command};
 use std::alloc::{AllocError, Global};
 
 mod options;
 
-const VERSION: &str = "0.1.0, proved with rattle-kit-13b logic dac8208d650f15bf";
+const VERSION: &str = "0.1.0, proved with rattle-kit-13f logic dac8208d650f15bf";
 
 /// The whole command. `AllocError` where a growth was refused.
 pub fn command<'a>(alloc: Global) -> Result<Command<'a>, AllocError> {
@@ -28,6 +28,7 @@ fn with_readers<'a>(alloc: Global, command: Command<'a>) -> Result<Command<'a>, 
     let stats = stats(alloc)?;
     let fold = fold(alloc)?;
     let page = page(alloc)?;
+    let chrome = chrome(alloc)?;
     command
         .subcommand(check)?
         .subcommand(dump)?
@@ -35,7 +36,8 @@ fn with_readers<'a>(alloc: Global, command: Command<'a>) -> Result<Command<'a>, 
         .subcommand(csv)?
         .subcommand(stats)?
         .subcommand(fold)?
-        .subcommand(page)
+        .subcommand(page)?
+        .subcommand(chrome)
 }
 
 // The subcommands that write traces, and that which follows one.
@@ -133,6 +135,22 @@ fn page<'a>(alloc: Global) -> Result<Command<'a>, AllocError> {
         )
         .arg(title)?;
     writing(alloc, selecting(alloc, page)?)
+}
+
+fn chrome<'a>(alloc: Global) -> Result<Command<'a>, AllocError> {
+    let title = Arg::new(alloc, "title")
+        .long("title")
+        .value_name("TEXT")
+        .help("The name of the whole, in place of the file's name");
+    let file = file(alloc);
+    let chrome = Command::new(alloc, "chrome")
+        .about("Writes the events of a trace in the format of Chrome's trace viewer")
+        .after_help(
+            "Examples:\n  gotymbe chrome -o run.json run.trace\n  gotymbe chrome --title Day -o day.json run.trace",
+        )
+        .arg(file)?
+        .arg(title)?;
+    writing(alloc, picking(alloc, chrome)?)
 }
 
 fn salvage<'a>(alloc: Global) -> Result<Command<'a>, AllocError> {

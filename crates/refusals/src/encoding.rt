@@ -8,26 +8,38 @@ use crate::verdict::{Answer, Seen};
 use dial9_trace_format::encoder::{Encoder, Reply};
 use dial9_trace_format::leb128::EncodeError;
 use std::alloc::{AllocError, Global};
+use std::hash::RandomState;
 use std::io::ErrorKind;
 use trace_samples::{Manner, Told};
 
 /// What a writer that is a list tells where it does not grow.
 const FULL: EncodeError = EncodeError::Writer(ErrorKind::OutOfMemory);
 
-/// One call of a plan: those before it, the call, and those after it.
+/// One call of a plan: those before it, the call, and those after it; and how the encoder hashes.
 #[derive(Clone, Copy)]
 pub struct Turn<'p> {
+    hashing: Hashing,
     plan: &'p Plan,
     before: &'p [Planned],
     call: &'p Planned,
     after: &'p [Planned],
 }
 
+/// By which hashes an encoder finds what it knows.
+#[derive(Clone, Copy)]
+pub enum Hashing {
+    /// Those of the fixed seed.
+    Fixed,
+    /// Those of a state of the caller's.
+    Seeded(RandomState),
+}
+
 /// The call of this index, if the plan has it.
-pub fn turn_of(plan: &Plan, index: usize) -> Option<Turn<'_>> {
+pub fn turn_of(plan: &Plan, index: usize, hashing: Hashing) -> Option<Turn<'_>> {
     let before = plan.calls.get(..index)?;
     let (call, after) = plan.calls.get(index..)?.split_first()?;
     Some(Turn {
+        hashing,
         plan,
         before,
         call,
@@ -54,6 +66,28 @@ pub fn over_array(alloc: Global) -> Result<Encoder<Told>, AllocError> {
     }
 }
 
+/// The same that hashes so.
+pub fn over_array_by(alloc: Global, hashing: Hashing) -> Result<Encoder<Told>, AllocError> {
+    let Hashing::Seeded(state) = hashing else {
+        return over_array(alloc);
+    };
+    match Encoder::new_to_with_hasher(alloc, Told::new(Manner::SOUND), state) {
+        Ok(encoder) => Ok(encoder),
+        Err(_) => Err(AllocError),
+    }
+}
+
+/// An encoder over a list, which hashes so. `AllocError` where a growth was refused.
+fn new_encoder_by(alloc: Global, hashing: Hashing) -> Result<Encoder, AllocError> {
+    let Hashing::Seeded(state) = hashing else {
+        return new_encoder(alloc);
+    };
+    match Encoder::new_with_hasher(alloc, state) {
+        Ok(encoder) => Ok(encoder),
+        Err(_) => Err(AllocError),
+    }
+}
+
 /// Whether the encoder has written so many bytes of these.
 pub fn is_at(encoder: &Encoder<Told>, bytes: &[u8], count: usize) -> bool {
     bytes.get(..count) == Some(encoder.as_inner().bytes())
@@ -68,12 +102,13 @@ pub struct InArray<'p>(pub Turn<'p>);
 impl Trial for InArray<'_> {
     fn seen(&self, alloc: Global, number: u32) -> Result<Seen, AllocError> {
         let Turn {
+            hashing,
             plan,
             before,
             call,
             after,
         } = self.0;
-        let mut encoder = over_array(alloc)?;
+        let mut encoder = over_array_by(alloc, hashing)?;
         let mut right = plays(&mut encoder, before);
         refuse(alloc, number);
         let reply = make(&mut encoder, &call.ask);
@@ -102,12 +137,13 @@ pub struct InList<'p>(pub Turn<'p>);
 impl Trial for InList<'_> {
     fn seen(&self, alloc: Global, number: u32) -> Result<Seen, AllocError> {
         let Turn {
+            hashing,
             plan,
             before,
             call,
             after,
         } = self.0;
-        let mut encoder = new_encoder(alloc)?;
+        let mut encoder = new_encoder_by(alloc, hashing)?;
         let mut right = plays(&mut encoder, before);
         refuse(alloc, number);
         let reply = make(&mut encoder, &call.ask);

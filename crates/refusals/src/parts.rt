@@ -13,6 +13,7 @@ use dial9_trace_format::schema::{
     FieldAnnotation, FieldDef, RegisterError, SchemaEntry, SchemaRegistry,
 };
 use std::alloc::{AllocError, Global};
+use std::hash::RandomState;
 use std::io::ErrorKind;
 use trace_samples::events::{Annotated, Poll};
 use trace_samples::{Manner, Told};
@@ -332,36 +333,36 @@ impl Trial for Registering<'_> {
     }
 }
 
-/// `Encoder::new`, whose refusal is that of the list that it writes to.
+/// A call that makes an encoder over a list; its refusal is that of the list.
 #[derive(Drop)]
-pub struct NewEncoder;
+pub enum NewEncoder {
+    /// `Encoder::new`.
+    OverList,
+    /// `Encoder::new_to`.
+    To,
+    /// `Encoder::new_with_hasher`.
+    WithHasher(RandomState),
+    /// `Encoder::new_to_with_hasher`.
+    ToWithHasher(RandomState),
+}
+
+impl NewEncoder {
+    fn make(&self, alloc: Global) -> Result<Encoder, EncodeError> {
+        match self {
+            NewEncoder::OverList => Encoder::new(alloc),
+            NewEncoder::To => Encoder::new_to(alloc, Vec::new(alloc)),
+            NewEncoder::WithHasher(state) => Encoder::new_with_hasher(alloc, *state),
+            NewEncoder::ToWithHasher(state) => {
+                Encoder::new_to_with_hasher(alloc, Vec::new(alloc), *state)
+            }
+        }
+    }
+}
 
 impl Trial for NewEncoder {
     fn seen(&self, alloc: Global, number: u32) -> Result<Seen, AllocError> {
         refuse(alloc, number);
-        let told = Encoder::new(alloc);
-        let refused = was_refused(alloc);
-        let answer = match told {
-            Ok(encoder) if encoder.bytes_written() == HEADER as u64 => Answer::Same,
-            Err(EncodeError::Writer(ErrorKind::OutOfMemory)) => Answer::Memory,
-            _ => Answer::Other,
-        };
-        Ok(Seen {
-            refused,
-            answer,
-            right: true,
-        })
-    }
-}
-
-/// `Encoder::new_to` over a list, whose refusal is the list's too.
-#[derive(Drop)]
-pub struct NewEncoderTo;
-
-impl Trial for NewEncoderTo {
-    fn seen(&self, alloc: Global, number: u32) -> Result<Seen, AllocError> {
-        refuse(alloc, number);
-        let told = Encoder::new_to(alloc, Vec::new(alloc));
+        let told = self.make(alloc);
         let refused = was_refused(alloc);
         let answer = match told {
             Ok(encoder) if encoder.bytes_written() == HEADER as u64 => Answer::Same,

@@ -3,9 +3,22 @@
 use crate::heap::is_there;
 use crate::tallies::Tallies;
 use crate::verdict::Counts;
+use std::hash::RandomState;
+use std::io;
 use std::io::Read;
 use std::process::ExitCode;
+use std::random::RandomSource;
 use worked_traces::ALL;
+
+/// Gives the same bytes each time, so that each run of the program is the same.
+struct Sevens;
+
+impl RandomSource for Sevens {
+    fn fill_bytes(&self, buf: &mut [u8]) -> io::Result<()> {
+        buf.fill(7);
+        Ok(())
+    }
+}
 
 /// Runs the program.
 pub fn run(rt: &(impl AllocGlobal + Input + Print + Eprint)) -> ExitCode {
@@ -25,7 +38,7 @@ fn run_all(rt: &(impl AllocGlobal + Input + Print)) -> anyhow::Result<bool> {
     let refuses = is_there(alloc);
     let mut input = Vec::new(alloc);
     rt.reader().read_to_end(&mut input)?;
-    let mut tallies = Tallies::new();
+    let mut tallies = Tallies::new(RandomState::new(&Sevens)?);
     let mut traces: u64 = 0;
     tallies.try_samples(alloc)?;
     for worked in ALL {
@@ -51,6 +64,7 @@ fn tell(rt: &impl Print, refuses: bool, tallies: &Tallies) -> anyhow::Result<boo
         ("one event over an array", &tallies.row),
         ("calls over an array", &tallies.array),
         ("calls over a list", &tallies.list),
+        ("calls by a hasher of the caller's", &tallies.seeded),
         ("lists of calls", &tallies.lists),
         ("readers", &tallies.readers),
         ("fed decoders", &tallies.fed),

@@ -2,8 +2,8 @@
 
 use crate::before::{Tables, what_stood};
 use crate::calls::{
-    all_borrowed, all_owned, decoder_of, next_borrowed, next_owned, place_of, show, step,
-    step_events, visit,
+    all_borrowed, all_owned, decoder_of, next_borrowed, next_into, next_owned, next_ref_into,
+    place_of, show, step, step_events, visit,
 };
 use crate::heap::{refuse, was_refused};
 use crate::runs::{Comparing, Reader, Reference, Run, is_same};
@@ -11,6 +11,7 @@ use crate::sweep::Trial;
 use crate::verdict::{Answer, Seen};
 use dial9_trace_format::decoder::{DecodeError, Decoder, TryForEachError};
 use dial9_trace_format::leb128::EncodeError;
+use dial9_trace_format::types::{FieldValue, FieldValueRef};
 use std::alloc::{AllocError, Global};
 
 /// A trace that a reader reads.
@@ -60,12 +61,13 @@ impl<'b> Reading<'_, 'b> {
         let counted = match (stood, self.reader) {
             (None, _) => false,
             (Some(_), Reader::AllOwned | Reader::AllBorrowed) => true,
-            (Some(stood), Reader::Events | Reader::Sink | Reader::Visitor) => {
-                stood.events == given
+            (Some(stood), Reader::Owned | Reader::Borrowed | Reader::Frames) => {
+                stood.frames == given
             }
-            (Some(stood), _) => stood.frames == given,
+            (Some(stood), _) => stood.events == given,
         };
-        let failed = stays_failed(&mut decoder, &error);
+        let failed = stays_failed(&mut decoder, &error)
+            && gives_no_events(alloc, &mut decoder, &error)?;
         let ended = match self.reader {
             Reader::Frames | Reader::Events => {
                 step(&mut decoder).is_none() && step_events(&mut decoder).is_none()
@@ -108,4 +110,23 @@ fn stays_failed(decoder: &mut Decoder<'_>, error: &DecodeError) -> bool {
         Ok(()) => false,
     };
     owned && borrowed && all && all_refs && shown && visited && place_of(decoder) == error.pos
+}
+
+/// Whether each call that puts an event into a list answers this error, and empties the list.
+fn gives_no_events(
+    alloc: Global,
+    decoder: &mut Decoder<'_>,
+    error: &DecodeError,
+) -> Result<bool, AllocError> {
+    let mut values = vec![in alloc; FieldValue::None]?;
+    let into = match next_into(decoder, &mut values) {
+        Err(told) => is_same(&told, error) && values.is_empty(),
+        Ok(_) => false,
+    };
+    let mut values = vec![in alloc; FieldValueRef::None]?;
+    let ref_into = match next_ref_into(decoder, &mut values) {
+        Err(told) => is_same(&told, error) && values.is_empty(),
+        Ok(_) => false,
+    };
+    Ok(into && ref_into && place_of(decoder) == error.pos)
 }

@@ -3,20 +3,23 @@
 ghost use Rattle.trace_samples.specs.Telling.{all_told};
 
 use crate::calls::{all_owned, decoder_of};
+use crate::encoding::Hashing;
 use crate::heap::{refuse, was_refused};
 use crate::sweep::Trial;
 use crate::verdict::{Answer, Seen};
 use dial9_trace_format::decoder::Decoder;
-use dial9_trace_format::encoder::{Call, Reply, run_calls};
+use dial9_trace_format::encoder::{Call, Encoder, Reply, run_calls};
 use dial9_trace_format::leb128::{EncodeError, TraceWrite};
 use std::alloc::{AllocError, Global};
 use std::io;
 use trace_samples::{Manner, Told};
 use trace_values::leb128::Faults;
 
-/// A trace that was read to its end, the calls that come then, and what they answer and write.
+/// A trace that was read to its end, how the encoder hashes that goes on after it, the calls that come then, and what
+/// they answer and write.
 #[derive(Drop)]
 pub struct Resuming<'b> {
+    hashing: Hashing,
     bytes: &'b [u8],
     calls: Vec<Call>,
     replies: Vec<Reply>,
@@ -30,13 +33,27 @@ fn read(alloc: Global, bytes: &[u8]) -> Result<Decoder<'_>, AllocError> {
     Ok(decoder)
 }
 
+/// `Decoder::into_encoder`, or `Decoder::into_encoder_with_hasher`.
+fn resumed<W: TraceWrite + Drop>(
+    decoder: Decoder<'_>,
+    writer: W,
+    hashing: Hashing,
+) -> Result<Encoder<W>, EncodeError> {
+    match hashing {
+        Hashing::Fixed => decoder.into_encoder(writer),
+        Hashing::Seeded(state) => decoder.into_encoder_with_hasher(writer, state),
+    }
+}
+
 /// What comes of these calls after the trace; `None` where no encoder goes on after it.
 pub fn after_trace(
     alloc: Global,
     bytes: &[u8],
     calls: Vec<Call>,
+    hashing: Hashing,
 ) -> Result<Option<Resuming<'_>>, AllocError> {
-    let mut encoder = match read(alloc, bytes)?.into_encoder(Told::new(Manner::SOUND)) {
+    let decoder = read(alloc, bytes)?;
+    let mut encoder = match resumed(decoder, Told::new(Manner::SOUND), hashing) {
         Ok(encoder) => encoder,
         Err(EncodeError::OutOfMemory) => return Err(AllocError),
         Err(_) => return Ok(None),
@@ -44,6 +61,7 @@ pub fn after_trace(
     let replies = run_calls(alloc, &mut encoder, &calls)?;
     let written = Vec::from_slice(alloc, encoder.as_inner().bytes())?;
     Ok(Some(Resuming {
+        hashing,
         bytes,
         calls,
         replies,
@@ -86,7 +104,7 @@ impl Resuming<'_> {
     fn seen_over(&self, alloc: Global, number: u32, writer: Lent<'_>) -> Result<Seen, AllocError> {
         let decoder = read(alloc, self.bytes)?;
         refuse(alloc, number);
-        let told = decoder.into_encoder(writer);
+        let told = resumed(decoder, writer, self.hashing);
         let refused = was_refused(alloc);
         let answer = match &told {
             Ok(_) => Answer::Same,

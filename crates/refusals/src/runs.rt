@@ -1,14 +1,15 @@
 //! What each reader gives of a trace, up to its end.
 
 use crate::calls::{
-    all_borrowed, all_owned, decoder_of, next_borrowed, next_owned, show, step, step_events, visit,
+    all_borrowed, all_owned, decoder_of, next_borrowed, next_into, next_owned, next_ref_into, show,
+    step, step_events, visit,
 };
 use crate::verdict::Answer;
 use dial9_trace_format::decoder::{
-    DecodeError, DecodeErrorKind, DecodedFrame, DecodedFrameRef, Decoder, EventSink, EventVisitor,
-    RawEvent, TryForEachError,
+    DecodeError, DecodeErrorKind, DecodedFrame, DecodedFrameRef, Decoder, EventHead, EventSink,
+    EventVisitor, RawEvent, TryForEachError,
 };
-use dial9_trace_format::types::FieldValueRef;
+use dial9_trace_format::types::{FieldValue, FieldValueRef};
 use std::alloc::{AllocError, Global};
 
 /// A reader of a whole trace.
@@ -30,10 +31,14 @@ pub enum Reader {
     Sink,
     /// `for_each_event`.
     Visitor,
+    /// `next_event_into`.
+    Into,
+    /// `next_event_ref_into`.
+    RefInto,
 }
 
 /// All of them.
-pub const READERS: [Reader; 8] = [
+pub const READERS: [Reader; 10] = [
     Reader::Owned,
     Reader::Borrowed,
     Reader::Frames,
@@ -42,6 +47,8 @@ pub const READERS: [Reader; 8] = [
     Reader::AllBorrowed,
     Reader::Sink,
     Reader::Visitor,
+    Reader::Into,
+    Reader::RefInto,
 ];
 
 /// What a trace gives where no growth is refused.
@@ -104,6 +111,12 @@ impl Run {
     pub fn give(&mut self, same: bool) {
         self.given = self.given.saturating_add(1);
         self.same = self.same && same;
+    }
+
+    /// The run, which is wrong where the list is not empty in the end.
+    fn with_none_in(self, is_empty: bool) -> Run {
+        let same = self.same && is_empty;
+        Run { same, ..self }
     }
 
     /// The run that ended so.
@@ -205,6 +218,56 @@ fn after_event(frames: &[DecodedFrameRef<'_>], from: usize) -> usize {
     frames.len()
 }
 
+/// The same of frames that own their values.
+fn after_owned_event(frames: &[DecodedFrame], from: usize) -> usize {
+    for index in from..frames.len() {
+        if matches!(frames[index], DecodedFrame::Event { .. }) {
+            return index.saturating_add(1);
+        }
+    }
+    frames.len()
+}
+
+/// Whether the frame is the event of this head and these values.
+fn is_event(frame: Option<&DecodedFrame>, head: EventHead, values: &[FieldValue]) -> bool {
+    match frame {
+        Some(
+            DecodedFrame::Event {
+                type_id,
+                timestamp_ns,
+                values: wanted,
+            },
+        ) => {
+            head.type_id == *type_id
+                && head.timestamp_ns == *timestamp_ns
+                && values == wanted.as_slice()
+        }
+        _ => false,
+    }
+}
+
+/// The same of values that stay in the bytes.
+fn is_event_ref<'v, 'b>(
+    frame: Option<&'v DecodedFrameRef<'b>>,
+    head: EventHead,
+    values: &'v [FieldValueRef<'b>],
+) -> bool {
+    match frame {
+        Some(
+            DecodedFrameRef::Event {
+                type_id,
+                timestamp_ns,
+                values: wanted,
+            },
+        ) => {
+            head.type_id == *type_id
+                && head.timestamp_ns == *timestamp_ns
+                && are_same(values, wanted)
+        }
+        _ => false,
+    }
+}
+
 /// The frame before an index.
 fn frame_before<'r, 'b>(
     frames: &'r [DecodedFrameRef<'b>],
@@ -241,7 +304,53 @@ impl<'b> Reference<'b> {
                 let error = visit(decoder, &mut visitor).err();
                 visitor.run.ended(error)
             }
+            Reader::Into => self.run_into(decoder),
+            Reader::RefInto => self.run_ref_into(decoder),
         }
+    }
+
+    /// Events whose values are put into one list, which is empty where none is given.
+    fn run_into(&self, decoder: &mut Decoder<'b>) -> Run {
+        let mut run = Run::new();
+        let mut over: usize = 0;
+        let mut values = Vec::new(*self.owned.allocator());
+        for _ in 0..=self.bytes.len() {
+            match next_into(decoder, &mut values) {
+                Ok(Some(head)) => {
+                    over = after_owned_event(&self.owned, over);
+                    let frame = self.owned.get(over.saturating_sub(1));
+                    run.give(is_event(frame, head, &values));
+                }
+                Ok(None) => return run.with_none_in(values.is_empty()),
+                Err(error) => {
+                    run.error = Some(error);
+                    return run.with_none_in(values.is_empty());
+                }
+            }
+        }
+        run
+    }
+
+    /// The same of values that stay in the bytes.
+    fn run_ref_into(&self, decoder: &mut Decoder<'b>) -> Run {
+        let mut run = Run::new();
+        let mut over: usize = 0;
+        let mut values = Vec::new(*self.owned.allocator());
+        for _ in 0..=self.bytes.len() {
+            match next_ref_into(decoder, &mut values) {
+                Ok(Some(head)) => {
+                    over = after_event(&self.borrowed, over);
+                    let frame = frame_before(&self.borrowed, over);
+                    run.give(is_event_ref(frame, head, &values));
+                }
+                Ok(None) => return run.with_none_in(values.is_empty()),
+                Err(error) => {
+                    run.error = Some(error);
+                    return run.with_none_in(values.is_empty());
+                }
+            }
+        }
+        run
     }
 
     fn run_owned(&self, decoder: &mut Decoder<'b>) -> Run {

@@ -4,11 +4,11 @@ use crate::asks::{Ask, ask_of};
 use crate::calls::{all_owned, decoder_of};
 use crate::copies::sweep_copies;
 use crate::dumping::{DUMPS, dump_of};
-use crate::encoding::{InArray, InList, turn_of};
+use crate::encoding::{Hashing, InArray, InList, turn_of};
 use crate::feeding::{Feeding, Form};
 use crate::free::{OfDecoders, OfEncoders, OfRegistries, OfValues, sweep_events};
 use crate::lists::list_of;
-use crate::parts::{FieldsOfType, NewEncoder, NewEncoderTo, sweep_registry};
+use crate::parts::{FieldsOfType, NewEncoder, sweep_registry};
 use crate::plan::{Plan, plan_of};
 use crate::reading::Reading;
 use crate::resolving::{sweep_fed, sweep_shown};
@@ -23,18 +23,23 @@ use crate::values::{sweep_value, sweep_values};
 use crate::verdict::{Counts, Verdict};
 use dial9_trace_format::encoder::Call;
 use std::alloc::{AllocError, Global};
+use std::hash::RandomState;
 use trace_samples::manner::ROOM;
 use worked_traces::{Worked, bytes_of, ends_of, parts_of};
 
 /// What was counted of each kind of calls.
 #[derive(Drop)]
 pub struct Tallies {
+    /// What encoders hash by that hash by a state of the caller's.
+    state: RandomState,
     /// The trace of one event over an array.
     pub row: Counts,
     /// Calls of an encoder over an array.
     pub array: Counts,
     /// The same over a list that grows.
     pub list: Counts,
+    /// Calls of encoders, over arrays and lists, that hash by a state of the caller's.
+    pub seeded: Counts,
     /// Lists of calls.
     pub lists: Counts,
     /// Readers.
@@ -58,13 +63,15 @@ pub struct Tallies {
 }
 
 impl Tallies {
-    /// Nothing was tried.
-    pub fn new() -> Tallies {
+    /// Nothing was tried. By the state hash those encoders that hash by one of the caller's.
+    pub fn new(state: RandomState) -> Tallies {
         let none = Counts::new();
         Tallies {
+            state,
             row: none,
             array: none,
             list: none,
+            seeded: none,
             lists: none,
             readers: none,
             fed: none,
@@ -86,8 +93,14 @@ impl Tallies {
         for calls in [with_schemas(alloc)?, with_pools(alloc)?, many(alloc)?] {
             self.try_calls(alloc, calls)?;
         }
-        sweep(alloc, &NewEncoder, &mut self.list)?;
-        sweep(alloc, &NewEncoderTo, &mut self.list)?;
+        sweep(alloc, &NewEncoder::OverList, &mut self.list)?;
+        sweep(alloc, &NewEncoder::To, &mut self.list)?;
+        sweep(alloc, &NewEncoder::WithHasher(self.state), &mut self.seeded)?;
+        sweep(
+            alloc,
+            &NewEncoder::ToWithHasher(self.state),
+            &mut self.seeded,
+        )?;
         sweep(alloc, &FieldsOfType, &mut self.schemas)?;
         sweep_value(alloc, &nested(alloc)?, &mut self.values)?;
         sweep(alloc, &OfValues, &mut self.free)
@@ -136,13 +149,19 @@ impl Tallies {
         self.try_plan(alloc, &plan_of(alloc, asks)?)
     }
 
-    /// Tries each call of a plan: over a list, and over an array where that has room for all.
+    /// Tries each call of a plan, by hashes of both kinds: over a list, and over an array where that has room for all.
     fn try_plan(&mut self, alloc: Global, plan: &Plan) -> Result<(), AllocError> {
         for index in 0..plan.calls.len() {
-            if let Some(turn) = turn_of(plan, index) {
+            if let Some(turn) = turn_of(plan, index, Hashing::Fixed) {
                 sweep(alloc, &InList(turn), &mut self.list)?;
                 if plan.bytes.len() <= ROOM {
                     sweep(alloc, &InArray(turn), &mut self.array)?;
+                }
+            }
+            if let Some(turn) = turn_of(plan, index, Hashing::Seeded(self.state)) {
+                sweep(alloc, &InList(turn), &mut self.seeded)?;
+                if plan.bytes.len() <= ROOM {
+                    sweep(alloc, &InArray(turn), &mut self.seeded)?;
                 }
             }
         }
@@ -164,8 +183,10 @@ impl Tallies {
         sweep_values(alloc, &reference.owned, &mut self.values)?;
         sweep(alloc, &OfDecoders(bytes), &mut self.free)?;
         sweep_events(alloc, bytes, &mut self.free)?;
-        if let Some(trial) = after_trace(alloc, bytes, with_pools(alloc)?)? {
-            sweep(alloc, &trial, &mut self.resumed)?;
+        for hashing in [Hashing::Fixed, Hashing::Seeded(self.state)] {
+            if let Some(trial) = after_trace(alloc, bytes, with_pools(alloc)?, hashing)? {
+                sweep(alloc, &trial, &mut self.resumed)?;
+            }
         }
         self.try_registry(alloc, bytes)
     }

@@ -1,4 +1,5 @@
 pub mod RecordsRead
+pub mod RecordsBefore
 pub mod BatchesRead
 pub mod Accepted
 pub mod RecordsPut

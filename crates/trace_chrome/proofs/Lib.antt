@@ -5,8 +5,10 @@ mod CutLines
 mod FrameLemmas
 mod Nesting
 mod Numerals
+mod RefusedSends
 mod Spacing
 mod Taking
 mod Telling
 mod Texts
+mod WholeSent
 mod Wholes

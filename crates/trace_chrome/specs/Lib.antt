@@ -9,4 +9,5 @@ pub mod Steps
 pub mod Trees
 pub mod Viewers
 pub mod Laws
+pub mod Sending
 pub mod parts

@@ -1,6 +1,7 @@
 //! What holds of the entries of traces, and of their texts.
 
 ghost use Rattle.trace_chrome.specs.Laws.{IsToldOnce, SlicesNest};
+ghost use Rattle.trace_chrome.specs.Sending.{TextIsSent};
 ghost use Rattle.trace_chrome.specs.Trees.{TextReadsBack};
 
 /// The entries of an event tell it once.
@@ -16,4 +17,10 @@ pub fn slices_nest()
 /// The text from the head over any entries to the tail is a line of JSON that is read back as the tree of these.
 pub fn reads_back()
     ensures { TextReadsBack }
+{}
+
+/// From its beginning over any events to its end the text of a trace is sent whole, with each event once and in its
+/// place.
+pub fn text_is_sent()
+    ensures { TextIsSent }
 {}

@@ -6,6 +6,7 @@ mod entries;
 mod frames;
 mod labels;
 pub mod laws;
+pub mod sending;
 #[cfg(test)]
 mod tests;
 mod times;

@@ -3,7 +3,7 @@
 mod worked;
 
 use self::worked::{TEXT, TRACE};
-use crate::trace::ChromeTrace;
+use crate::sending::ChromeText;
 use dial9_trace_format::decoder::FeedDecoder;
 use std::alloc::{AllocError, Global};
 use std::test::Fail;
@@ -12,10 +12,9 @@ use trace_events::event::OwnedEvent;
 /// The text of a trace and a name of the whole.
 fn text_of(alloc: Global, trace: &[u8], name: &str) -> Option<Vec<u8>> {
     let mut decoder = FeedDecoder::new(alloc);
-    let mut chrome = ChromeTrace::new(alloc);
+    let mut chrome = ChromeText::new(alloc, name).ok()?;
     let mut out = Vec::new(alloc);
     decoder.push(trace).ok()?;
-    chrome.push_head(&mut out, name).ok()?;
     for _ in 0..trace.len() {
         let Some(frame) = decoder.next_frame().ok()? else {
             break;
@@ -26,10 +25,10 @@ fn text_of(alloc: Global, trace: &[u8], name: &str) -> Option<Vec<u8>> {
             decoder.stack_pool(),
         );
         if let Some(event) = OwnedEvent::of_frame(&frame, registry, strings, stacks) {
-            chrome.push_event(&mut out, &event).ok()?;
+            chrome.send_event(&mut out, &event).ok()?;
         }
     }
-    chrome.push_tail(&mut out).ok()?;
+    chrome.finish(&mut out).ok()?;
     Some(out)
 }
 

@@ -37,7 +37,7 @@ use Rattle.dial9_trace_format.specs.Sinks.{event_by, event_of, events_of}
 use Rattle.dial9_trace_format.proofs.SinkRuns.{events_append}
 use Rattle.trace_cuts.specs.declared.range.TimeRange.{TimeRange}
 use Rattle.trace_cuts.specs.declared.copying.Copying.{Copying}
-use Rattle.trace_cuts.specs.Ranges.{is_within, stays, is_event_within}
+use Rattle.trace_cuts.specs.Ranges.{is_within, stays, is_copied, is_no_reset, is_event_within}
 use Rattle.trace_cuts.specs.declared.copying.Next.{Next}
 use Rattle.trace_cuts.specs.declared.copying.Next.TheVariants as next
 use Rattle.trace_cuts.specs.Cuts.{IsCutOfFrames, TellsConflict}
@@ -81,6 +81,7 @@ pub record Adds (r : TimeRange) (g next : Grammar) (base after : ℕ) (f : Frame
   pub frames : List Frame
   pub run : IsRun (all_of_kind owned_reader frames) (grammar_of g.wire_types base) bytes frames
       (grammar_of next.wire_types after)
+  pub same : filter is_no_reset frames ≡ filter (is_copied r) (f ∷ [])
   pub items : items frames ≡ filter (stays r) (items (f ∷ []))
   pub events : (p : Pools) → events_of (grammar_of g.wire_types base) p frames
       ≡ filter (is_event_within r) (events_of g p (f ∷ []))
@@ -93,6 +94,10 @@ cut_more :
     pools_after no_pools kept ≡ pools_after no_pools frames → IsCutOfFrames r frames kept →
     (a : Adds r g next base after f more) → IsCutOfFrames r (frames ++ f ∷ []) (kept ++ a.frames)
 cut_more r {g} {next} {base} {after} {f} {more} taken spelled {frames} {kept} run kept_run pools cut a = record {
+  copied = filter-append is_no_reset kept a.frames
+      ∙ ap (λ (l : List Frame). l ++ filter is_no_reset a.frames) cut.copied
+      ∙ ap (λ (l : List Frame). filter (is_copied r) frames ++ l) a.same
+      ∙ sym (filter-append (is_copied r) frames (f ∷ []));
   items = items_append kept a.frames
       ∙ ap (λ (l : List Item). l ++ items a.frames) cut.items
       ∙ ap (λ (l : List Item). filter (stays r) (items frames) ++ l) a.items
@@ -145,6 +150,7 @@ unfolding step empty
 adds_header r g base version here is = record {
   frames = Header version ∷ [];
   run = run_one owned_reader (grammar_of g.wire_types base) empty here (Header version) is refl;
+  same = refl;
   items = refl;
   events = λ p. refl;
   pools = λ p. refl;
@@ -157,6 +163,7 @@ adds_reset :
 adds_reset r g base time = record {
   frames = [];
   run = (refl, refl);
+  same = refl;
   items = refl;
   events = λ p. refl;
   pools = λ p. refl;
@@ -195,6 +202,7 @@ adds_none :
 adds_none r g base id time values out = record {
   frames = [];
   run = (refl, refl);
+  same = sym (ap (λ (b : Bool). if b then Event id time values ∷ [] else []) out);
   items = sym (ap (λ (b : Bool). if b then EventItem id time values ∷ [] else []) out);
   events = λ p. events_out r (map.get g.wire_types id) p id time values out;
   pools = λ p. refl;
@@ -214,6 +222,11 @@ item_in :
     EventItem id time values ∷ [] ≡ filter (stays r) (EventItem id time values ∷ [])
 item_in r id time values within = sym (ap (λ (b : Bool). if b then EventItem id time values ∷ [] else []) within)
 
+frame_in :
+    (r : TimeRange) (id time : ℕ) (values : List Value) → is_within r time ≡ true →
+    Event id time values ∷ [] ≡ filter (is_copied r) (Event id time values ∷ [])
+frame_in r id time values within = sym (ap (λ (b : Bool). if b then Event id time values ∷ [] else []) within)
+
 adds_same :
     (r : TimeRange) (g : Grammar) (id time : ℕ) (values : List Value) (here : List ℕ) → is_within r time ≡ true →
     IsFrame owned_reader g here (Event id time values) →
@@ -222,6 +235,7 @@ adds_same r g id time values here within is = record {
   frames = Event id time values ∷ [];
   run = run_one owned_reader g (grammar_of g.wire_types time) here (Event id time values) is
       (step_event g id time values);
+  same = frame_in r id time values within;
   items = item_in r id time values within;
   events = λ p. events_in r (map.get g.wire_types id) p id time values within;
   pools = λ p. refl;
@@ -239,6 +253,7 @@ adds_after_reset r g base id time values here within fits is = record {
       (run_one owned_reader (grammar_of g.wire_types base) g (reset_bytes g.base) (Reset g.base)
       (record { time_fits = fits; parts = refl }) refl)
       (run_one owned_reader g (grammar_of g.wire_types time) here (Event id time values) is refl);
+  same = frame_in r id time values within;
   items = item_in r id time values within;
   events = λ p. events_in r (map.get g.wire_types id) p id time values within;
   pools = λ p. refl;
@@ -329,6 +344,15 @@ plain_item r (Header version) p = absurd p
 plain_item r (Event id time values) p = absurd p
 plain_item r (Reset time) p = absurd p
 
+plain_same : (r : TimeRange) (f : Frame) → IsPlain f → filter is_no_reset (f ∷ []) ≡ filter (is_copied r) (f ∷ [])
+plain_same r (Schema id shape) p = refl
+plain_same r (Strings entries) p = refl
+plain_same r (Stacks entries) p = refl
+plain_same r (Annotations id entries) p = refl
+plain_same r (Header version) p = absurd p
+plain_same r (Event id time values) p = absurd p
+plain_same r (Reset time) p = absurd p
+
 plain_event : (g : Grammar) (p : Pools) (f : Frame) → IsPlain f → event_of g p f ≡ []
 plain_event g p (Schema id shape) is = refl
 plain_event g p (Strings entries) is = refl
@@ -346,6 +370,7 @@ adds_plain r g next base f here p is s = record {
   run = run_one owned_reader (grammar_of g.wire_types base) (grammar_of next.wire_types base) here f
       (frame_again g (grammar_of g.wire_types base) here f p is)
       (step_again g base f p ∙ ap (rebased base) s);
+  same = plain_same r f p;
   items = plain_item r f p;
   events = λ q.
       ap (λ (l : List ShownEvent). l ++ []) (plain_event (grammar_of g.wire_types base) q f p)
@@ -615,6 +640,6 @@ copied_none r start bytes s f =
       spelled = [];
       copied_is = sym (append-nil start);
       kept_run = (refl, refl);
-      cut = record { items = refl; events = refl };
+      cut = record { copied = refl; items = refl; events = refl };
       pools = refl;
     })

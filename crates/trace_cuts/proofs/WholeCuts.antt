@@ -81,7 +81,6 @@ whole_cut r bytes {start} {after} {version} {first} last cut h (at_start, at_aft
           done.conflict_is;
       kept = c.kept;
       trace = record {
-        version = version;
         header = subst (λ (l : List ℕ). StartsWith l version) (sym spelled) trace.0;
         last = grammar_of last.grammar.wire_types last.base;
         run = subst (λ (l : List ℕ). IsRun (all_of_kind owned_reader c.kept) empty l c.kept

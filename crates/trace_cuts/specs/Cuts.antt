@@ -10,17 +10,17 @@ use Rattle.dial9_trace_format.specs.Decoding.{StartsWith, IsHeadless}
 use Rattle.dial9_trace_format.specs.Sinks.{events_of}
 use Rattle.trace_cuts.specs.declared.range.TimeRange.{TimeRange}
 use Rattle.trace_cuts.specs.declared.cut.Cut.{Cut}
-use Rattle.trace_cuts.specs.Ranges.{stays, is_event_within}
+use Rattle.trace_cuts.specs.Ranges.{stays, is_copied, is_no_reset, is_event_within}
 
--- frames that have the items of others, but for the events outside of a range; each event has the schema and the pools
--- that it had
+-- frames that are others, headers among them, but for resets and for the events outside of a range; each event has the
+-- schema and the pools that it had
 pub record IsCutOfFrames (r : TimeRange) (frames kept : List Frame) : Type 0 where
+  pub copied : filter is_no_reset kept ≡ filter (is_copied r) frames
   pub items : items kept ≡ filter (stays r) (items frames)
   pub events : events_of empty no_pools kept ≡ filter (is_event_within r) (events_of empty no_pools frames)
 
--- the bytes spell these frames after a header, to their end
-pub record IsTraceOfFrames (bytes : List ℕ) (frames : List Frame) : Type 0 where
-  pub version : ℕ
+-- the bytes spell these frames after a header of this version, to their end
+pub record IsTraceOfFrames (version : ℕ) (bytes : List ℕ) (frames : List Frame) : Type 0 where
   pub header : StartsWith bytes version
   pub last : Grammar
   pub run : IsRun (all_of_kind owned_reader frames) empty (drop header_length bytes) frames last
@@ -52,7 +52,7 @@ pub record CutsRun (r : TimeRange) (bytes : List ℕ) (cut : Cut) : Type 0 where
   pub length_is : cut.length + length rest ≡ length bytes
   pub conflict : TellsConflict last rest end cut.conflict
   pub kept : List Frame
-  pub trace : IsTraceOfFrames cut.bytes.items kept
+  pub trace : IsTraceOfFrames version cut.bytes.items kept
   pub cut_of : IsCutOfFrames r frames kept
 
 -- what a cut of bytes is

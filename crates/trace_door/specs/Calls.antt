@@ -12,7 +12,7 @@ use Rattle.trace_batch.specs.declared.batch_error.BatchError.{BatchError}
 use Rattle.trace_batch.specs.declared.read.ReadBatch.{ReadBatch}
 use Rattle.trace_batch.specs.declared.read_error.ReadError.{ReadError}
 use Rattle.trace_door.specs.Codes.{done_code, memory_code, cause_code, cause_field, read_code, stop_code}
-use Rattle.trace_door.specs.Codes.{stop_detail}
+use Rattle.trace_door.specs.Codes.{stop_detail, empty_report}
 use Rattle.trace_door.specs.Filling.{Fills}
 use Rattle.trace_door.specs.Counting.{CountsEvents}
 use Rattle.trace_door.specs.declared.codes.TraceReport.{TraceReport}
@@ -22,6 +22,7 @@ pub record Records (batch old new : List ℕ) (report : TraceReport) (code : ℕ
   pub trace : List ℕ
   pub is : IsTraceOfBatch batch trace
   pub fills : Fills trace old new report.length done_code code
+  pub beside : report ≡ record empty_report { length = report.length }
 
 -- the batch was refused, and the room is as it was
 pub record RefusesToRecord (batch old new : List ℕ) (report : TraceReport) (code : ℕ) : Type 0 where
@@ -29,17 +30,16 @@ pub record RefusesToRecord (batch old new : List ℕ) (report : TraceReport) (co
   pub refused : RefusesBatch batch error
   pub same : new ≡ old
   pub code_is : code ≡ cause_code error.cause
-  pub place_is : report.place ≡ error.index
-  pub detail_is : report.detail ≡ cause_field error.cause
+  pub told : report ≡ record empty_report { place = error.index; detail = cause_field error.cause }
 
 -- one of both
 abbrev pub RecordsInto : List ℕ → List ℕ → List ℕ → TraceReport → ℕ → Type 0
 RecordsInto batch old new report code = Records batch old new report code
     ⊎ RefusesToRecord batch old new report code
 
--- why a front ends, as a number with what it speaks of, and where
+-- why a front ends, as a number with what it speaks of, and where; nothing where it does not
 abbrev pub TellsStop : Option Stop → TraceReport → ℕ → Type 0
-TellsStop None report code = code ≡ done_code
+TellsStop None report code = (code ≡ done_code) × (report.place ≡ 0) × (report.detail ≡ 0)
 TellsStop (Some stop) report code = (code ≡ stop_code stop.cause) × (report.place ≡ stop.place)
     × (report.detail ≡ stop_detail stop.cause)
 
@@ -55,21 +55,24 @@ pub record ChecksFront (bytes : List ℕ) (report : TraceReport) (code : ℕ) : 
   pub stop : TellsStop front.stop report code
   pub counted : CountsEvents (take front.length bytes) report.events
   pub version_is : TellsVersion bytes report.version
+  pub no_state : report.state ≡ 0
+  pub nothing_read : report.read ≡ 0
 
 -- that, or want of memory
 abbrev pub Checks : List ℕ → TraceReport → ℕ → Type 0
-Checks bytes report code = ChecksFront bytes report code ⊎ (code ≡ memory_code)
+Checks bytes report code = ChecksFront bytes report code ⊎ ((code ≡ memory_code) × (report ≡ empty_report))
 
 -- the lines of what the bytes hold went into the room, or are too long for it; the report has the status
 pub record Dumps (resolve : Bool) (bytes old new : List ℕ) (report : TraceReport) (code : ℕ) : Type 0 where
   pub text : List ℕ
   pub is : IsDump resolve bytes report.detail text
   pub fills : Fills text old new report.length done_code code
+  pub beside : report ≡ record empty_report { length = report.length; detail = report.detail }
 
 -- that, or want of memory, and the room is as it was
 abbrev pub DumpsInto : Bool → List ℕ → List ℕ → List ℕ → TraceReport → ℕ → Type 0
 DumpsInto resolve bytes old new report code = Dumps resolve bytes old new report code
-    ⊎ ((code ≡ memory_code) × (new ≡ old))
+    ⊎ ((code ≡ memory_code) × (new ≡ old) × (report ≡ empty_report))
 
 -- What was read is told: the batch and the state after it went into the room, and the number tells why no more was
 -- read; or they are too long for it.
@@ -92,14 +95,15 @@ pub record TellsBatch (state trace : List ℕ) (most : ℕ) (old new : List ℕ)
   pub is : ReadsBatch state trace most batch
   pub told : TellsRead batch old new report code
 
--- nothing was read, and the room is as it was
-pub record ReadsNothing (state trace old new : List ℕ) (code : ℕ) : Type 0 where
+-- nothing was read, the room is as it was, and the report says nothing
+pub record ReadsNothing (state trace old new : List ℕ) (report : TraceReport) (code : ℕ) : Type 0 where
   pub error : ReadError
   pub refused : RefusesToRead state trace error
   pub code_is : code ≡ read_code error
   pub same : new ≡ old
+  pub untold : report ≡ empty_report
 
 -- one of both
 abbrev pub ReadsInto : List ℕ → List ℕ → ℕ → List ℕ → List ℕ → TraceReport → ℕ → Type 0
 ReadsInto state trace most old new report code = TellsBatch state trace most old new report code
-    ⊎ ReadsNothing state trace old new code
+    ⊎ ReadsNothing state trace old new report code

@@ -8,6 +8,7 @@ use Rattle.trace_batch.specs.declared.batch_error.BatchCause.{BatchCause}
 use Rattle.trace_batch.specs.declared.batch_error.BatchCause.TheVariants as causes
 use Rattle.trace_batch.specs.declared.read_error.ReadError.{ReadError}
 use Rattle.trace_batch.specs.declared.read_error.ReadError.TheVariants as read_errors
+use Rattle.trace_door.specs.declared.codes.TraceReport.{TraceReport}
 
 -- all was done; the room is too short; want of memory
 abbrev pub done_code : ℕ
@@ -72,3 +73,7 @@ stop_detail (kinds.UnknownTypeId id) = id.0
 stop_detail (kinds.Conflict id) = id.0
 stop_detail (kinds.NoFrame byte) = byte
 stop_detail kind = 0
+
+-- a report that says nothing
+abbrev pub empty_report : TraceReport
+empty_report = record { length = 0; state = 0; read = 0; place = 0; detail = 0; events = 0; version = 0 }

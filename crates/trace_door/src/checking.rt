@@ -40,7 +40,7 @@ fn version_of(alloc: Global, trace: &[u8]) -> u8
     }
 }
 
-/// Tells why a trace does not read further, and where.
+/// Tells why a trace does not read further, and where; nothing of one that reads whole.
 pub(crate) fn tell_stop(stop: Option<Stop>, report: &mut TraceReport) -> u32
     ensures told { TellsStop stop report.new result }
     ensures length { report.new.length ≡ report.old.length }
@@ -55,6 +55,10 @@ pub(crate) fn tell_stop(stop: Option<Stop>, report: &mut TraceReport) -> u32
             report.detail = stop_detail(stop.cause);
             stop_code(stop.cause)
         }
-        None => DONE,
+        None => {
+            report.place = 0;
+            report.detail = 0;
+            DONE
+        }
     }
 }

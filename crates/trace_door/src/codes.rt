@@ -2,7 +2,7 @@
 
 ghost use Rattle.std.specs.Prelude.{◌≡◌};
 ghost use Rattle.trace_door.specs.Codes.{cause_code, cause_field, encode_code, read_code, stop_code, stop_detail};
-ghost use Rattle.trace_door.specs.parts.Codes.{empty_report};
+ghost use Rattle.trace_door.specs.Codes.{empty_report};
 
 use dial9_trace_format::decoder::DecodeErrorKind;
 use dial9_trace_format::leb128::EncodeError;

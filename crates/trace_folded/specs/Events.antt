@@ -1,6 +1,7 @@
 -- What the stacks of events add up to.
 use Rattle.std.specs.Prelude.{◌≡◌, ◌≤◌, ◌+◌, ◌^◌, ℕ, ℤ, pos, negsuc, List, Option, Some, None, position, bytes_eq}
-use Rattle.std.specs.Prelude.{option_and_then}
+use Rattle.std.specs.Prelude.{option_and_then, option_map, ◌≢◌}
+use Rattle.std.specs.BTreeMap.{get_by_text}
 use Rattle.std.specs.List.{slice_get, sum_by}
 use Rattle.trace_values.specs.Values.{Value, integer, number}
 use Rattle.trace_wire.specs.Schemas.{Field}
@@ -45,6 +46,15 @@ part_of by e text = part_for (first_stack e.pools.stacks e.values) (amount_of by
 -- the number of each text is what these events add up to
 abbrev pub AreCountsOf : Option (List ℕ) → List ShownEvent → FoldedStacks → Type 0
 AreCountsOf by es s = (text : List ℕ) → count_of s.counts text ≡ sum_by (λ e. part_of by e text) es
+
+-- the text of an event's stack, if it has one
+abbrev pub stack_text : ShownEvent → Option (List ℕ)
+stack_text e = option_map folded_text (first_stack e.pools.stacks e.values)
+
+-- nothing was put in but under that text
+abbrev pub PutsOnlyStackOf : ShownEvent → FoldedStacks → FoldedStacks → Type 0
+PutsOnlyStackOf e old new =
+    (other : List ℕ) → stack_text e ≢ Some other → get_by_text new.counts other ≡ get_by_text old.counts other
 
 -- with this event the number of its stack would pass 2 ^ 64 - 1
 abbrev pub IsTooMuch : Option (List ℕ) → ShownEvent → FoldedStacks → Type 0

@@ -6,7 +6,9 @@ ghost use Rattle.trace_values.specs.ValueViews.{view};
 ghost use Rattle.dial9_trace_format.specs.ShownEvents.{ShownEvent};
 ghost use Rattle.trace_events.specs.OwnedEvents.{owned_event};
 ghost use Rattle.trace_folded.specs.Events.{natural_in, natural_of, place_of, value_named, amount_of, AreCountsOf};
-ghost use Rattle.trace_folded.specs.Events.{IsTooMuch};
+ghost use Rattle.trace_folded.specs.Events.{IsTooMuch, PutsOnlyStackOf};
+ghost use Rattle.trace_folded.specs.Stacks.{folded_text};
+ghost use Rattle.trace_folded.specs.Tallies.{PutsNoOther};
 ghost use Rattle.trace_folded.specs.parts.Events.{AddsPart, IsPartTooMuch};
 ghost use Rattle.trace_folded.specs.declared.tally.FoldError.TheVariants.{Full};
 
@@ -24,6 +26,7 @@ impl FoldedStacks {
         ensures added { OnOk result ((es : List ShownEvent)
             → AreCountsOf (option_map (λ t. t.now) by.entry) es self.old
             → AreCountsOf (option_map (λ t. t.now) by.entry) (es ++ owned_event event.now ∷ []) self.new) }
+        ensures others { OnOk result (PutsOnlyStackOf (owned_event event.now) self.old self.new) }
         ensures refused { OnErr result (IsUnchanged self.old.counts self.new.counts) }
         ensures full { IfErr result (λ e. e ≡ Full
             → IsTooMuch (option_map (λ t. t.now) by.entry) (owned_event event.now) self.old) }
@@ -37,6 +40,8 @@ impl FoldedStacks {
     // Adds so much to the number of a stack, where that is known.
     fn add_amount(&mut self, stack: &[u64], amount: Option<u64>) -> Result<(), FoldError>
         ensures added { OnOk result (AddsPart self.old self.new stack.now amount) }
+        ensures others { OnOk result (PutsNoOther self.old.counts self.new.counts
+            (folded_text stack.now)) }
         ensures refused { OnErr result (IsUnchanged self.old.counts self.new.counts) }
         ensures full { IfErr result (λ e. e ≡ Full → IsPartTooMuch self.old stack.now amount) }
     {

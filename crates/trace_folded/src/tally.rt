@@ -6,7 +6,7 @@ ghost use Rattle.std.specs.List.{flat_map};
 ghost use Rattle.std.specs.BTreeMap.{IsUnchanged};
 ghost use Rattle.trace_folded.specs.Stacks.{folded_text};
 ghost use Rattle.trace_folded.specs.Events.{AreCountsOf};
-ghost use Rattle.trace_folded.specs.Tallies.{count_of, CountsMore, count_line};
+ghost use Rattle.trace_folded.specs.Tallies.{count_of, CountsMore, PutsNoOther, count_line};
 ghost use Rattle.trace_folded.specs.parts.Tallies.{SetsCount};
 ghost use Rattle.trace_folded.specs.declared.tally.FoldError.TheVariants.{OutOfMemory, Full};
 
@@ -50,6 +50,8 @@ impl FoldedStacks {
     pub fn add(&mut self, stack: &[u64], more: u64) -> Result<(), FoldError>
         ensures added { OnOk result (CountsMore self.old.counts self.new.counts
             (folded_text stack.now) more) }
+        ensures others { OnOk result (PutsNoOther self.old.counts self.new.counts
+            (folded_text stack.now)) }
         ensures refused { OnErr result (IsUnchanged self.old.counts self.new.counts) }
         ensures full { IfErr result (λ e. e ≡ Full
             → 2 ^ 64 ≤ count_of self.old.counts (folded_text stack.now) + more) }
@@ -80,6 +82,8 @@ impl FoldedStacks {
     fn put(&mut self, text: String, count: u64) -> Result<(), AllocError>
         ensures put { OnOk result (SetsCount self.old.counts self.new.counts
             (string_bytes text) count) }
+        ensures others { OnOk result (PutsNoOther self.old.counts self.new.counts
+            (string_bytes text)) }
         ensures refused { OnErr result (IsUnchanged self.old.counts self.new.counts) }
     {
         self.counts.insert(text, count)?;

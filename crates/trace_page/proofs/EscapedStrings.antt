@@ -1,6 +1,6 @@
 -- An escaped string is read back once `<` is escaped too, and the lexer passes over it.
 use Rattle.std.proofs.Common.{◌≡◌, ℕ, zero, suc, ◌<◌, ◌≤◌, List, [], ◌∷◌, ◌++◌, Some, inl, inr, ◌⊎◌, refl, sym, ap, ◌∙◌}
-use Rattle.std.proofs.Common.{subst, arith, append_assoc, Bool, true, false, cond, ◌==◌}
+use Rattle.std.proofs.Common.{subst, arith, append_assoc, Bool, true, false, cond}
 use Rattle.std.proofs.lemmas.Bool.{cases_eq, cases_lt, ne_eqb, le-ltb}
 use Rattle.std.proofs.lemmas.Grind.{flat_map-append}
 use lib.Utf8.{encode}
@@ -9,7 +9,7 @@ use Rattle.json.specs.Word.{is_operator, is_space}
 use Rattle.json.specs.Lex.{Lexeme, Mode, lex, lex_byte, between, in_string, operator, space, other}
 use Rattle.json.specs.Print.{escape_byte, escape}
 use Rattle.json.proofs.Printed.Strings.{escape_byte_plain}
-use Rattle.trace_page.specs.Escaping.{escaped, escaped_byte, less_than}
+use Rattle.trace_page.specs.Escaping.{escaped, escaped_byte}
 
 -- escaping goes part by part
 pub escaped-append : (a b : List ℕ) → escaped (a ++ b) ≡ escaped a ++ escaped b

@@ -2,3 +2,16 @@ pub mod EscapedStrings
 pub mod EscapedNumbers
 pub mod EscapedText
 pub mod SentPieces
+pub mod RefusedPages
+pub mod Chains
+pub mod Growing
+pub mod Named
+pub mod MoreStand
+pub mod Counted
+pub mod Places
+pub mod Numerals
+pub mod Zeros
+pub mod Assembled
+pub mod Told
+pub mod Floats
+pub mod KindsPut

@@ -1,7 +1,18 @@
 //! The columns of the events, and the lists that values name. Each function answers `AllocError` where a growth was
 //! refused.
 
-ghost use Rattle.std.specs.Prelude.{◌≡◌};
+ghost use Rattle.std.specs.Prelude.{◌≡◌, map as list_map, string_bytes, OnOk};
+ghost use Rattle.std.specs.List.{AllZip, flat_map};
+ghost use Rattle.json.specs.Json.{string};
+ghost use Rattle.json.specs.Tree.{json_tokens};
+ghost use Rattle.trace_values.specs.AddressTexts.{address_text};
+ghost use Rattle.trace_json.specs.EventJson.{list_json};
+ghost use Rattle.trace_json.specs.Put.{PutsOne};
+ghost use Rattle.trace_json.specs.parts.Put.{Puts, PutsTokens, PutsAll};
+ghost use Rattle.trace_page.specs.PageValues.{index_json, time_json, IsIndexOf};
+ghost use Rattle.trace_page.specs.Pages.{start_of, IsStack};
+ghost use Rattle.trace_page.specs.Holding.{texts_in};
+ghost use Rattle.trace_page.specs.parts.Writing.{IsLonger, IsListOf};
 
 use crate::names::index_of_text;
 use crate::numbers::{put_index, put_time};
@@ -12,7 +23,8 @@ use trace_values::tri;
 
 /// Writes a list of indexes.
 pub(crate) fn put_indexes(out: &mut Writer, indexes: &[usize]) -> Result<(), AllocError>
-    ensures { out.new.before ≡ out.old.before }
+    ensures tokens { Puts (list_json (list_map index_json indexes.now)) out.old out.new result }
+    ensures before { out.new.before ≡ out.old.before }
 {
     out.begin_array()?;
     put_each_index(out, indexes)?;
@@ -20,7 +32,9 @@ pub(crate) fn put_indexes(out: &mut Writer, indexes: &[usize]) -> Result<(), All
 }
 
 fn put_each_index(out: &mut Writer, indexes: &[usize]) -> Result<(), AllocError>
-    ensures { out.new.before ≡ out.old.before }
+    ensures tokens { PutsTokens (flat_map (λ i. json_tokens (index_json i)) indexes.now) out.old
+        out.new result }
+    ensures before { out.new.before ≡ out.old.before }
 {
     for index in indexes {
         put_index(out, *index)?;
@@ -35,7 +49,9 @@ pub(crate) fn put_times(
     start: u64,
     times: &[u64],
 ) -> Result<(), AllocError>
-    ensures { out.new.before ≡ out.old.before }
+    ensures tokens { Puts (list_json (list_map (time_json start) times.now)) out.old out.new
+        result }
+    ensures before { out.new.before ≡ out.old.before }
 {
     out.begin_array()?;
     put_each_time(alloc, out, start, times)?;
@@ -48,7 +64,9 @@ fn put_each_time(
     start: u64,
     times: &[u64],
 ) -> Result<(), AllocError>
-    ensures { out.new.before ≡ out.old.before }
+    ensures tokens { PutsTokens (flat_map (λ t. json_tokens (time_json start t)) times.now) out.old
+        out.new result }
+    ensures before { out.new.before ≡ out.old.before }
 {
     for time in times {
         put_time(alloc, out, start, *time)?;
@@ -57,7 +75,9 @@ fn put_each_time(
 }
 
 /// The first of times, 0 where there is none.
-pub(crate) fn start_of(times: &[u64]) -> u64 {
+pub(crate) fn start_of(times: &[u64]) -> u64
+    ensures { result ≡ start_of times.now }
+{
     match times.first() {
         Some(time) => *time,
         None => 0,
@@ -66,7 +86,9 @@ pub(crate) fn start_of(times: &[u64]) -> u64 {
 
 /// Writes a list of texts.
 pub(crate) fn put_strings(out: &mut Writer, strings: &[String]) -> Result<(), AllocError>
-    ensures { out.new.before ≡ out.old.before }
+    ensures tokens { Puts (list_json (list_map (λ s. string (string_bytes s)) strings.now)) out.old
+        out.new result }
+    ensures before { out.new.before ≡ out.old.before }
 {
     out.begin_array()?;
     put_each_string(out, strings)?;
@@ -74,7 +96,9 @@ pub(crate) fn put_strings(out: &mut Writer, strings: &[String]) -> Result<(), Al
 }
 
 fn put_each_string(out: &mut Writer, strings: &[String]) -> Result<(), AllocError>
-    ensures { out.new.before ≡ out.old.before }
+    ensures tokens { PutsTokens (flat_map (λ s. json_tokens (string (string_bytes s))) strings.now)
+        out.old out.new result }
+    ensures before { out.new.before ≡ out.old.before }
 {
     for text in strings {
         out.string(text.as_str())?;
@@ -89,7 +113,11 @@ pub(crate) fn put_stacks(
     strings: &mut IndexSet<String>,
     stacks: &[Vec<u64>],
 ) -> Result<(), AllocError>
-    ensures { out.new.before ≡ out.old.before }
+    ensures tokens { PutsOne (IsListOf
+        (AllZip (IsStack (texts_in strings.new)) (list_map (λ v. v.items) stacks.now))) out.old
+        out.new result }
+    ensures grown { OnOk result (IsLonger (texts_in strings.old) (texts_in strings.new)) }
+    ensures before { out.new.before ≡ out.old.before }
 {
     out.begin_array()?;
     put_each_stack(alloc, out, strings, stacks)?;
@@ -102,7 +130,11 @@ fn put_each_stack(
     strings: &mut IndexSet<String>,
     stacks: &[Vec<u64>],
 ) -> Result<(), AllocError>
-    ensures { out.new.before ≡ out.old.before }
+    ensures tokens { PutsAll json_tokens
+        (AllZip (IsStack (texts_in strings.new)) (list_map (λ v. v.items) stacks.now)) out.old
+        out.new result }
+    ensures grown { OnOk result (IsLonger (texts_in strings.old) (texts_in strings.new)) }
+    ensures before { out.new.before ≡ out.old.before }
 {
     'stacks: for stack in stacks {
         put_frames(alloc, out, strings, stack)?;
@@ -117,7 +149,9 @@ fn put_frames(
     strings: &mut IndexSet<String>,
     stack: &[u64],
 ) -> Result<(), AllocError>
-    ensures { out.new.before ≡ out.old.before }
+    ensures tokens { PutsOne (IsStack (texts_in strings.new) stack.now) out.old out.new result }
+    ensures grown { OnOk result (IsLonger (texts_in strings.old) (texts_in strings.new)) }
+    ensures before { out.new.before ≡ out.old.before }
 {
     out.begin_array()?;
     put_each_frame(alloc, out, strings, stack)?;
@@ -130,7 +164,11 @@ fn put_each_frame(
     strings: &mut IndexSet<String>,
     stack: &[u64],
 ) -> Result<(), AllocError>
-    ensures { out.new.before ≡ out.old.before }
+    ensures tokens { PutsAll json_tokens
+        (AllZip (IsIndexOf (texts_in strings.new)) (list_map address_text stack.now)) out.old
+        out.new result }
+    ensures grown { OnOk result (IsLonger (texts_in strings.old) (texts_in strings.new)) }
+    ensures before { out.new.before ≡ out.old.before }
 {
     'addresses: for address in stack {
         put_frame(alloc, out, strings, *address)?;
@@ -145,7 +183,10 @@ fn put_frame(
     strings: &mut IndexSet<String>,
     address: u64,
 ) -> Result<(), AllocError>
-    ensures { out.new.before ≡ out.old.before }
+    ensures tokens { PutsOne (IsIndexOf (texts_in strings.new) (address_text address)) out.old
+        out.new result }
+    ensures grown { OnOk result (IsLonger (texts_in strings.old) (texts_in strings.new)) }
+    ensures before { out.new.before ≡ out.old.before }
 {
     let text = tri!(format!(in alloc; "0x{address:x}"));
     let index = tri!(index_of_text(alloc, strings, text.as_str()));

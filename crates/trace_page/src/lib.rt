@@ -8,4 +8,6 @@ mod names;
 mod numbers;
 mod schemas;
 pub mod sending;
+#[cfg(test)]
+mod tests;
 mod values;

@@ -1,5 +1,9 @@
 //! The texts and stacks that values name by their index.
 
+ghost use Rattle.std.specs.Prelude.{◌≡◌, [], IfOk, string_bytes, OnOk};
+ghost use Rattle.trace_page.specs.Holding.{texts_in, lists_in};
+ghost use Rattle.trace_page.specs.parts.Writing.{IsLonger, StandsAt};
+
 use indexmap::IndexSet;
 use std::alloc::{AllocError, Global};
 use trace_values::tri;
@@ -13,7 +17,10 @@ pub struct Names {
 
 impl Names {
     /// No texts and no stacks. Takes no memory.
-    pub(crate) fn new(alloc: Global) -> Names {
+    pub(crate) fn new(alloc: Global) -> Names
+        ensures strings { texts_in result.strings ≡ [] }
+        ensures stacks { lists_in result.stacks ≡ [] }
+    {
         Names {
             strings: IndexSet::new(alloc),
             stacks: IndexSet::new(alloc),
@@ -26,7 +33,10 @@ pub(crate) fn index_of_text(
     alloc: Global,
     strings: &mut IndexSet<String>,
     text: &str,
-) -> Result<usize, AllocError> {
+) -> Result<usize, AllocError>
+    ensures index { IfOk result (StandsAt (texts_in strings.new) text.now) }
+    ensures grown { OnOk result (IsLonger (texts_in strings.old) (texts_in strings.new)) }
+{
     match strings.get_index_of(text) {
         Some(index) => Ok(index),
         None => {
@@ -37,9 +47,12 @@ pub(crate) fn index_of_text(
 }
 
 // Puts a text in that is new, and answers its index.
-fn put_last_text(strings: &mut IndexSet<String>, text: String) -> Result<usize, AllocError> {
+fn put_last_text(strings: &mut IndexSet<String>, text: String) -> Result<usize, AllocError>
+    ensures index { IfOk result (StandsAt (texts_in strings.new) (string_bytes text)) }
+    ensures grown { OnOk result (IsLonger (texts_in strings.old) (texts_in strings.new)) }
+{
     match strings.insert_full(text) {
-        Ok((index, _)) => Ok(index),
+        Ok(put) => Ok(put.0),
         Err(_) => Err(AllocError),
     }
 }
@@ -49,7 +62,10 @@ pub(crate) fn index_of_stack(
     alloc: Global,
     stacks: &mut IndexSet<Vec<u64>>,
     stack: &[u64],
-) -> Result<usize, AllocError> {
+) -> Result<usize, AllocError>
+    ensures index { IfOk result (StandsAt (lists_in stacks.new) stack.now) }
+    ensures grown { OnOk result (IsLonger (lists_in stacks.old) (lists_in stacks.new)) }
+{
     match stacks.get_index_of(stack) {
         Some(index) => Ok(index),
         None => {
@@ -61,9 +77,12 @@ pub(crate) fn index_of_stack(
 }
 
 // Puts a stack in that is new, and answers its index.
-fn put_last_stack(stacks: &mut IndexSet<Vec<u64>>, stack: Vec<u64>) -> Result<usize, AllocError> {
+fn put_last_stack(stacks: &mut IndexSet<Vec<u64>>, stack: Vec<u64>) -> Result<usize, AllocError>
+    ensures index { IfOk result (StandsAt (lists_in stacks.new) stack.items) }
+    ensures grown { OnOk result (IsLonger (lists_in stacks.old) (lists_in stacks.new)) }
+{
     match stacks.insert_full(stack) {
-        Ok((index, _)) => Ok(index),
+        Ok(put) => Ok(put.0),
         Err(_) => Err(AllocError),
     }
 }

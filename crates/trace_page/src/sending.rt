@@ -1,8 +1,9 @@
 //! Sending a page.
 
-ghost use Rattle.std.specs.Prelude.{◌++◌, [], OnOk};
+ghost use Rattle.std.specs.Prelude.{◌++◌, [], IfErr, OnOk};
 ghost use Rattle.trace_values.specs.Sending.{TookOnly};
 ghost use Rattle.trace_page.specs.Escaping.{escaped};
+ghost use Rattle.trace_page.specs.Sending.{PageFails};
 
 use crate::escaping::push_escaped;
 use std::alloc::{AllocError, Global};
@@ -22,20 +23,30 @@ pub enum PageError {
 }
 
 impl From<AllocError> for PageError {
+    ghost use Rattle.std.specs.Prelude.{◌≡◌};
+    ghost use Rattle.trace_page.specs.declared.sending.PageError.TheVariants.{OutOfMemory};
+
+    ghost from_gives = { λ _ e. e ≡ OutOfMemory };
+
     fn from(_: AllocError) -> PageError {
         PageError::OutOfMemory
     }
 }
 
 impl From<SendFault> for PageError {
+    ghost use Rattle.std.specs.Prelude.{◌≡◌};
+    ghost use Rattle.trace_page.specs.declared.sending.PageError.TheVariants.{Writer};
+
+    ghost from_gives = { λ fault e. e ≡ Writer fault.kind };
+
     fn from(fault: SendFault) -> PageError {
         PageError::Writer(fault.kind)
     }
 }
 
 /// Sends a page: what stands before its data, the text of the data, escaped, and what stands after it.
-/// `PageError::OutOfMemory` where a growth was refused, and `PageError::Writer` where the writer failed: then a part
-/// of the page may be sent.
+/// `PageError::OutOfMemory` where a growth was refused, and `PageError::Writer` where the writer failed: then a front
+/// of the page may be sent, and not all.
 pub fn send_page<W: TraceWrite>(
     alloc: Global,
     out: &mut W,
@@ -45,6 +56,8 @@ pub fn send_page<W: TraceWrite>(
 ) -> Result<(), PageError>
     ensures sent { OnOk result (TookOnly (W.told out.old) (W.told out.new)
         (head.now ++ (escaped text.now ++ tail.now)) []) }
+    ensures refused { IfErr result (PageFails (W.told out.old) (W.told out.new)
+        (head.now ++ (escaped text.now ++ tail.now))) }
 {
     send_all(out, head.as_bytes())?;
     send_escaped(alloc, out, text)?;
@@ -54,8 +67,10 @@ pub fn send_page<W: TraceWrite>(
 
 // Sends text, escaped, a piece of it after another.
 fn send_escaped<W: TraceWrite>(alloc: Global, out: &mut W, text: &[u8]) -> Result<(), PageError>
-    ensures { OnOk result
+    ensures sent { OnOk result
         (TookOnly (W.told out.old) (W.told out.new) (escaped text.now) []) }
+    ensures refused { IfErr result
+        (PageFails (W.told out.old) (W.told out.new) (escaped text.now)) }
 {
     let mut held = Vec::new(alloc);
     let mut sent = 0;

@@ -5,9 +5,10 @@ ghost use Rattle.std.specs.Prelude.{IfNone, IfSome};
 ghost use Rattle.dial9_trace_format.specs.ShownEvents.{shown_event};
 ghost use Rattle.trace_stats.specs.Events.{Counted, counted_event};
 ghost use Rattle.trace_events.specs.OwnedEvents.{owned_event};
-ghost use Rattle.trace_stats.specs.Refusals.{RefusesEvent};
+ghost use Rattle.trace_stats.specs.Refusals.{RefusesEvent, IsNewSchema};
 ghost use Rattle.trace_stats.specs.Traces.{AreStatsOf};
 ghost use Rattle.trace_stats.specs.parts.Places.{IsPlaceOf, IsNoPlaceOf, HasNoPlace, FindsPlace, answer_of};
+ghost use Rattle.trace_stats.specs.declared.trace.StatsError.TheVariants.{OutOfMemory};
 
 use crate::full::Full;
 use crate::schema::SchemaStats;
@@ -63,13 +64,16 @@ impl TraceStats {
         }
     }
 
-    /// Counts an event of so many bytes too. `OutOfMemory` where a growth for a new schema was refused: then nothing
-    /// changes. `Full` only where 2^64 - 1 events were counted: then a part of this one is.
+    /// Counts an event of so many bytes too. `OutOfMemory` where a growth for a new schema was refused, and never of an
+    /// event whose schema has events: then nothing changes. `Full` only where 2^64 - 1 events were counted: then a part
+    /// of this one is.
     pub fn add(&mut self, event: &RawEvent<'_, '_>, bytes: u64) -> Result<(), StatsError>
         ensures added { OnOk result
             ((es : List Counted) → AreStatsOf es self.old
             → AreStatsOf (es ++ counted_event (shown_event event.now) bytes ∷ []) self.new) }
         ensures refused { IfErr result (RefusesEvent self.old self.new) }
+        ensures memory { IfErr result (λ e. e ≡ OutOfMemory →
+            IsNewSchema (shown_event event.now).entry self.old) }
     {
         let place = self.place_for(event.type_id, event.schema)?;
         answer_of(self.schemas[place].add(event, bytes))
@@ -81,6 +85,8 @@ impl TraceStats {
             ((es : List Counted) → AreStatsOf es self.old
             → AreStatsOf (es ++ counted_event (owned_event event.now) bytes ∷ []) self.new) }
         ensures refused { IfErr result (RefusesEvent self.old self.new) }
+        ensures memory { IfErr result (λ e. e ≡ OutOfMemory →
+            IsNewSchema (owned_event event.now).entry self.old) }
     {
         let place = self.place_for(event.type_id, event.schema)?;
         answer_of(self.schemas[place].add_owned(event, bytes))
@@ -98,6 +104,7 @@ impl TraceStats {
         ensures placed { IfOk result
             (FindsPlace schema.now self.old.schemas.items self.new.schemas.items) }
         ensures same { OnErr result (self.new.schemas.items ≡ self.old.schemas.items) }
+        ensures unknown { OnErr result (HasNoPlace schema.now self.old.schemas.items) }
     {
         let guess = id.0 as usize % GUESSES;
         match place_of(self.schemas.as_slice(), self.guesses[guess], schema) {

@@ -1,5 +1,6 @@
 //! Adding up the stacks of events.
 
+use crate::clocks::zero_of;
 use crate::output::Noted;
 use crate::pieces::{FrameSink, Picked, read_named};
 use crate::tasks::{Call, settle, tell};
@@ -35,7 +36,7 @@ impl FrameSink for Folding<'_> {
             return Ok(());
         };
         match self.stacks.add_event(&event, self.field) {
-            Ok(()) => Ok(()),
+            Ok(()) => self.picked.go_on(),
             Err(FoldError::OutOfMemory) => Err(Ending::OutOfMemory),
             Err(FoldError::Full) => Err(Ending::TooMuch),
         }
@@ -60,11 +61,11 @@ pub(crate) fn fold_all<W: TraceWrite + Drop>(
     let mut folding = Folding {
         stacks: FoldedStacks::new(rt.alloc()),
         field: call.asked.field,
-        picked: Picked::of(call),
+        picked: Picked::of(call, None),
     };
     let mut status = WHOLE;
     for name in call.asked.files.as_slice() {
-        folding.picked = Picked::of(call);
+        folding.picked = Picked::of(call, zero_of(rt, call, name));
         let ending = read_named(rt, call, name, &mut folding);
         status = status.max(tell(rt, name, ending)?);
     }

@@ -1,5 +1,6 @@
 //! Writing a page that shows traces.
 
+use crate::clocks::zero_of;
 use crate::output::Noted;
 use crate::pieces::{FrameSink, Picked, read_named};
 use crate::tasks::{Call, settle, tell};
@@ -37,7 +38,7 @@ impl FrameSink for Gathered<'_> {
             return Ok(());
         };
         match self.data.add(&event, bytes) {
-            Ok(()) => Ok(()),
+            Ok(()) => self.picked.go_on(),
             Err(_) => Err(Ending::OutOfMemory),
         }
     }
@@ -60,12 +61,12 @@ pub(crate) fn write_page<W: TraceWrite + Drop>(
 ) -> Result<u8, AllocError> {
     let mut gathered = Gathered {
         data: PageData::new(rt.alloc())?,
-        picked: Picked::of(call),
+        picked: Picked::of(call, None),
     };
     let mut ends = String::new(rt.alloc());
     let mut status = WHOLE;
     for name in call.asked.files.as_slice() {
-        gathered.picked = Picked::of(call);
+        gathered.picked = Picked::of(call, zero_of(rt, call, name));
         let ending = read_named(rt, call, name, &mut gathered);
         status = status.max(tell(rt, name, ending)?);
         if ending == Ending::OutOfMemory {

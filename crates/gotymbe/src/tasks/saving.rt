@@ -1,5 +1,6 @@
 //! Writing traces: what reads whole of them, several joined, and cuts.
 
+use crate::clocks::zero_in;
 use crate::input::{front_ending, read_all};
 use crate::output::Noted;
 use crate::tasks::{Call, read_each, settle, tell};
@@ -66,7 +67,10 @@ pub(crate) fn cut_one<W: TraceWrite + Drop>(
         Ok(bytes) => bytes,
         Err(ending) => return ending,
     };
-    let (from, to) = call.filter().bounds();
+    let Some(filter) = call.wanted().filter(zero_in(rt.alloc(), call, &bytes)) else {
+        return Ending::NoClock;
+    };
+    let (from, to) = filter.bounds();
     match send_cut(rt.alloc(), &bytes, TimeRange { from, to }, out) {
         Ok(_) => front_ending(rt.alloc(), &bytes, Readers::Owned),
         Err(CutError::OutOfMemory) => Ending::OutOfMemory,

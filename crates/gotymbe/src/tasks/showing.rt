@@ -1,12 +1,13 @@
 //! Showing what traces hold: checking, dumping, counting, and lines of JSON.
 
+use crate::clocks::zero_of;
 use crate::events::{EventLines, Form};
 use crate::input::{open, unread};
 use crate::output::Noted;
 use crate::pieces::{Picked, Tally, ending_by, ending_of, placed, read_named};
 use crate::tasks::{Call, settle, tell};
 use dial9_trace_format::decoder::FeedDecoder;
-use gotymbe_plan::ending::{Ending, dump_ending};
+use gotymbe_plan::ending::{Ending, dump_ending, push_whole};
 use gotymbe_plan::statistics::push_stats;
 use gotymbe_words::asked::Task;
 use std::alloc::AllocError;
@@ -27,7 +28,9 @@ pub(crate) fn check(
         let ending = ending_of(rt, call, name);
         status = status.max(tell(rt, name, ending)?);
         if ending == Ending::Whole {
-            let _ = println!(rt; "{name}: whole");
+            let mut line = String::new(rt.alloc());
+            push_whole(&mut line, name)?;
+            let _ = print!(rt; "{line}");
         }
     }
     Ok(status)
@@ -42,11 +45,11 @@ pub(crate) fn stats_of_all<W: TraceWrite + Drop>(
 ) -> Result<u8, AllocError> {
     let mut tally = Tally {
         stats: TraceStats::new(rt.alloc()),
-        picked: Picked::of(call),
+        picked: Picked::of(call, None),
     };
     let mut status = WHOLE;
     for name in call.asked.files.as_slice() {
-        tally.picked = Picked::of(call);
+        tally.picked = Picked::of(call, zero_of(rt, call, name));
         let ending = read_named(rt, call, name, &mut tally);
         status = status.max(tell(rt, name, ending)?);
     }
@@ -71,7 +74,7 @@ pub(crate) fn show_one<W: TraceWrite + Drop>(
     let mut lines = EventLines {
         alloc: rt.alloc(),
         form,
-        picked: Picked::of(call),
+        picked: Picked::of(call, zero_of(rt, call, name)),
         line: String::new(rt.alloc()),
         json: Vec::new(rt.alloc()),
         held: Vec::new(rt.alloc()),

@@ -1,5 +1,6 @@
 //! Writing events as tables.
 
+use crate::clocks::zero_of;
 use crate::output::make_folder;
 use crate::pieces::{Picked, read_named};
 use crate::tables::Tables;
@@ -36,10 +37,10 @@ fn fill_folder(
     call: &Call<'_>,
     folder: &str,
 ) -> Result<u8, AllocError> {
-    let mut tables = Tables::new(rt, folder, call.asked.force, Picked::of(call));
+    let mut tables = Tables::new(rt, folder, call.asked.force, Picked::of(call, None));
     let mut status = WHOLE;
     for name in call.asked.files.as_slice() {
-        tables.picked = Picked::of(call);
+        tables.picked = Picked::of(call, zero_of(rt, call, name));
         let ending = read_named(rt, call, name, &mut tables);
         if let Ending::Unwritten(_) = ending {
             tables.give_up();

@@ -9,30 +9,31 @@ pub(crate) fn selecting<'a>(
     command: Command<'a>,
 ) -> Result<Command<'a>, AllocError> {
     let files = files(alloc);
+    picking(alloc, command.arg(files)?)
+}
+
+/// Which events.
+pub(crate) fn picking<'a>(alloc: Global, command: Command<'a>) -> Result<Command<'a>, AllocError> {
     let event = Arg::new(alloc, "event")
         .long("event")
         .value_name("NAME")
         .action(ArgAction::Append)
         .help("Events of this name alone (may be given several times)");
     let limit = number(alloc, "limit", "N", "At most so many events").short('n');
-    let command = range(alloc, command.arg(files)?)?;
+    let command = range(alloc, command)?;
     command.arg(event)?.arg(limit)
 }
 
 /// From when to when.
 pub(crate) fn range<'a>(alloc: Global, command: Command<'a>) -> Result<Command<'a>, AllocError> {
-    let from = number(
-        alloc,
-        "from",
-        "TIME",
-        "No event before this time, in nanoseconds",
-    );
-    let to = number(
-        alloc,
-        "to",
-        "TIME",
-        "No event after this time, in nanoseconds",
-    );
+    let from = Arg::new(alloc, "from")
+        .long("from")
+        .value_name("TIME")
+        .help("No event before this time, in nanoseconds or as a date");
+    let to = Arg::new(alloc, "to")
+        .long("to")
+        .value_name("TIME")
+        .help("No event after this time, in nanoseconds or as a date");
     command.arg(from)?.arg(to)
 }
 

@@ -1,6 +1,16 @@
 //! Parts of values that hold no others. Each function answers `AllocError` where a growth was refused.
 
-ghost use Rattle.std.specs.Prelude.{◌≡◌};
+ghost use Rattle.std.specs.Prelude.{◌≡◌, OnOk};
+ghost use Rattle.std.specs.FinMap as finmap;
+ghost use Rattle.hex.specs.Hex.{encode_lower};
+ghost use Rattle.json.specs.Tree.{json_tokens};
+ghost use Rattle.trace_json.specs.Put.{PutsOne};
+ghost use Rattle.trace_json.specs.parts.Put.{Puts, PutsAll};
+ghost use Rattle.trace_values.specs.ValueViews.{text_pairs_view};
+ghost use Rattle.trace_page.specs.PageValues.{IsIndexOf, IsPooled, AreTexts, ArePairTexts};
+ghost use Rattle.trace_page.specs.PageValues.{unknown_json, text_or_digits};
+ghost use Rattle.trace_page.specs.Holding.{tables_of};
+ghost use Rattle.trace_page.specs.parts.Writing.{Grows};
 
 use crate::names::{Names, index_of_stack, index_of_text};
 use crate::numbers::put_index;
@@ -18,7 +28,10 @@ pub(crate) fn put_text(
     names: &mut Names,
     text: &str,
 ) -> Result<(), AllocError>
-    ensures { out.new.before ≡ out.old.before }
+    ensures tokens { PutsOne (IsIndexOf (tables_of names.new).strings text.now) out.old
+        out.new result }
+    ensures grown { OnOk result (Grows (tables_of names.old) (tables_of names.new)) }
+    ensures before { out.new.before ≡ out.old.before }
 {
     let index = tri!(index_of_text(alloc, &mut names.strings, text));
     put_index(out, index)
@@ -31,7 +44,10 @@ pub(crate) fn put_stack(
     names: &mut Names,
     stack: &[u64],
 ) -> Result<(), AllocError>
-    ensures { out.new.before ≡ out.old.before }
+    ensures tokens { PutsOne (IsIndexOf (tables_of names.new).stacks stack.now) out.old
+        out.new result }
+    ensures grown { OnOk result (Grows (tables_of names.old) (tables_of names.new)) }
+    ensures before { out.new.before ≡ out.old.before }
 {
     let index = tri!(index_of_stack(alloc, &mut names.stacks, stack));
     put_index(out, index)
@@ -44,7 +60,10 @@ pub(crate) fn put_bytes(
     names: &mut Names,
     bytes: &[u8],
 ) -> Result<(), AllocError>
-    ensures { out.new.before ≡ out.old.before }
+    ensures tokens { PutsOne (IsIndexOf (tables_of names.new).strings (encode_lower bytes.now))
+        out.old out.new result }
+    ensures grown { OnOk result (Grows (tables_of names.old) (tables_of names.new)) }
+    ensures before { out.new.before ≡ out.old.before }
 {
     let digits = tri!(hex::encode(alloc, bytes));
     put_text(alloc, out, names, digits.as_str())
@@ -58,7 +77,11 @@ pub(crate) fn put_pooled_text(
     strings: &StringPool,
     id: InternedString,
 ) -> Result<(), AllocError>
-    ensures { out.new.before ≡ out.old.before }
+    ensures tokens { PutsOne (IsPooled (tables_of names.new).strings id.0
+        (finmap.get strings.now id.0)) out.old
+        out.new result }
+    ensures grown { OnOk result (Grows (tables_of names.old) (tables_of names.new)) }
+    ensures before { out.new.before ≡ out.old.before }
 {
     match strings.get(id) {
         Some(text) => put_text(alloc, out, names, text),
@@ -74,7 +97,11 @@ pub(crate) fn put_pooled_stack(
     stacks: &StackPool,
     id: InternedStackFrames,
 ) -> Result<(), AllocError>
-    ensures { out.new.before ≡ out.old.before }
+    ensures tokens { PutsOne (IsPooled (tables_of names.new).stacks id.0
+        (finmap.get stacks.now id.0)) out.old
+        out.new result }
+    ensures grown { OnOk result (Grows (tables_of names.old) (tables_of names.new)) }
+    ensures before { out.new.before ≡ out.old.before }
 {
     match stacks.get(id) {
         Some(stack) => put_stack(alloc, out, names, stack),
@@ -84,7 +111,8 @@ pub(crate) fn put_pooled_stack(
 
 // Writes an id under which a pool holds nothing: an object of it.
 fn put_unknown(out: &mut Writer, id: u32) -> Result<(), AllocError>
-    ensures { out.new.before ≡ out.old.before }
+    ensures tokens { Puts (unknown_json id) out.old out.new result }
+    ensures before { out.new.before ≡ out.old.before }
 {
     tri!(out.begin_object());
     tri!(out.key("unknown"));
@@ -99,7 +127,10 @@ fn put_text_bytes(
     names: &mut Names,
     bytes: &[u8],
 ) -> Result<(), AllocError>
-    ensures { out.new.before ≡ out.old.before }
+    ensures tokens { PutsOne (IsIndexOf (tables_of names.new).strings (text_or_digits bytes.now))
+        out.old out.new result }
+    ensures grown { OnOk result (Grows (tables_of names.old) (tables_of names.new)) }
+    ensures before { out.new.before ≡ out.old.before }
 {
     match utf8_of(bytes) {
         Ok(text) => put_text(alloc, out, names, text),
@@ -114,7 +145,10 @@ pub(crate) fn put_texts(
     names: &mut Names,
     pairs: &[(Vec<u8>, Vec<u8>)],
 ) -> Result<(), AllocError>
-    ensures { out.new.before ≡ out.old.before }
+    ensures tokens { PutsOne (AreTexts (tables_of names.new).strings
+        (text_pairs_view pairs.now)) out.old out.new result }
+    ensures grown { OnOk result (Grows (tables_of names.old) (tables_of names.new)) }
+    ensures before { out.new.before ≡ out.old.before }
 {
     out.begin_array()?;
     put_text_pairs(alloc, out, names, pairs)?;
@@ -128,7 +162,11 @@ fn put_text_pairs(
     names: &mut Names,
     pairs: &[(Vec<u8>, Vec<u8>)],
 ) -> Result<(), AllocError>
-    ensures { out.new.before ≡ out.old.before }
+    ensures tokens { PutsAll json_tokens
+        (ArePairTexts (tables_of names.new).strings (text_pairs_view pairs.now)) out.old out.new
+        result }
+    ensures grown { OnOk result (Grows (tables_of names.old) (tables_of names.new)) }
+    ensures before { out.new.before ≡ out.old.before }
 {
     'pairs: for pair in pairs {
         tri!(put_text_bytes(alloc, out, names, &pair.0));

@@ -1,5 +1,7 @@
 //! Traces that are fed in pieces, and of which no frame comes any more.
 
+mod limits;
+
 use crate::tests::traces::{HEADER, ONE_EVENT};
 use dial9_trace_format::codec::WireTypeId;
 use dial9_trace_format::decoder::{DecodeErrorKind, FeedDecoder};
@@ -7,13 +9,13 @@ use std::alloc::{AllocError, Global};
 use std::test::Fail;
 
 /// The schema `Ev`, of wire id 256, with one field `v` of type Varint.
-const NUMBERS: [u8; 14] = [1, 0, 1, 2, 0, 0x45, 0x76, 1, 1, 0, 1, 0, 0x76, 9];
+pub const NUMBERS: [u8; 14] = [1, 0, 1, 2, 0, 0x45, 0x76, 1, 1, 0, 1, 0, 0x76, 9];
 
 /// The same with one field of type List.
 const LISTS: [u8; 14] = [1, 0, 1, 2, 0, 0x45, 0x76, 1, 1, 0, 1, 0, 0x76, 14];
 
 /// The tag, the wire id 256 and the delta 0 of an event.
-const AN_EVENT: [u8; 6] = [2, 0, 1, 0, 0, 0];
+pub const AN_EVENT: [u8; 6] = [2, 0, 1, 0, 0, 0];
 
 /// Ten bytes after which a number goes on.
 const ENDLESS: [u8; 10] = [0xFF; 10];
@@ -162,7 +164,8 @@ fn shows_byte_by_byte(
     )
 }
 
-fn shows(
+/// Both, where the place is told from the first of the latter bytes on.
+pub fn shows(
     alloc: Global,
     whole: &[u8],
     cut: &[u8],

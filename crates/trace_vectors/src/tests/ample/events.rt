@@ -26,7 +26,7 @@ fn put_event_of(
 }
 
 /// What an encoder writes for that event.
-fn event_of(
+pub fn event_of(
     alloc: Global,
     fields: Vec<FieldDef>,
     values: &[FieldValue],
@@ -37,7 +37,7 @@ fn event_of(
 }
 
 /// The same of one field, of this type.
-fn event(
+pub fn event(
     alloc: Global,
     field_type: FieldType,
     values: &[FieldValue],
@@ -79,7 +79,7 @@ fn events_of_a_million(rt: HostRuntime) -> Result<(), Fail> {
 }
 
 /// So many absent values.
-fn absent(alloc: Global, count: usize) -> Result<Vec<FieldValue>, AllocError> {
+pub fn absent(alloc: Global, count: usize) -> Result<Vec<FieldValue>, AllocError> {
     let mut values = Vec::new(alloc);
     for _ in 0..count {
         values.push(FieldValue::None)?;

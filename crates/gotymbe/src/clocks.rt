@@ -1,0 +1,85 @@
+//! The clocks of traces, which dates go by (docs/ROLES.md, "Clocks").
+
+use crate::output::standing;
+use crate::pieces::{FrameSink, feed, read_named};
+use crate::tasks::Call;
+use dial9_trace_format::decoder::{DecodedFrame, FeedDecoder};
+use gotymbe_plan::ending::Ending;
+use gotymbe_plan::output::Standing;
+use std::alloc::Global;
+use std::fs::File;
+use std::rt::{Clock, Files};
+use trace_roles::clock::clock_of;
+
+/// The nanoseconds since the beginning of 1970 at the zero of the clock that a frame says, if it says one.
+pub(crate) fn zero_said(frame: &DecodedFrame, decoder: &FeedDecoder) -> Option<i64> {
+    match frame {
+        DecodedFrame::SchemaAnnotations { type_id, .. } => {
+            match clock_of(decoder.registry().get(*type_id)?) {
+                Some(clock) => Some(clock.zero),
+                None => None,
+            }
+        }
+        _ => None,
+    }
+}
+
+// Looks for the first clock.
+#[derive(Drop)]
+struct FirstClock {
+    zero: Option<i64>,
+}
+
+impl FrameSink for FirstClock {
+    fn begin(&mut self, _: u8) -> Result<(), Ending> {
+        Ok(())
+    }
+
+    fn frame<'f>(
+        &mut self,
+        frame: &'f DecodedFrame,
+        decoder: &'f FeedDecoder,
+        _: u64,
+    ) -> Result<(), Ending> {
+        self.zero = zero_said(frame, decoder);
+        match self.zero {
+            Some(_) => Err(Ending::Whole),
+            None => Ok(()),
+        }
+    }
+
+    fn settle(&mut self) -> Result<(), Ending> {
+        Ok(())
+    }
+
+    fn end(&mut self, _: Ending, _: usize) -> Result<(), Ending> {
+        Ok(())
+    }
+}
+
+/// The zero of the first clock that a file says, where a date is asked for: it is read up to there. `None` where none
+/// is, where the file says no clock, and of what can't be read twice, as standard input and pipes.
+pub(crate) fn zero_of(
+    rt: &(impl AllocGlobal + Files<File = File> + Input + Eprint + Clock),
+    call: &Call<'_>,
+    name: &str,
+) -> Option<i64> {
+    if !call.has_dates() || name == "-" || standing(rt, name) != Standing::File {
+        return None;
+    }
+    let mut first = FirstClock { zero: None };
+    let _ = read_named(rt, call, name, &mut first);
+    first.zero
+}
+
+/// The zero of the first clock that a trace says, where a date is asked for.
+pub(crate) fn zero_in(alloc: Global, call: &Call<'_>, trace: &[u8]) -> Option<i64> {
+    if !call.has_dates() {
+        return None;
+    }
+    let mut first = FirstClock { zero: None };
+    let mut decoder = FeedDecoder::new(alloc);
+    let mut input = trace;
+    let _ = feed(&mut input, &mut decoder, &mut first, u64::MAX);
+    first.zero
+}

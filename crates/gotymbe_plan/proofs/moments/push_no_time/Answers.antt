@@ -1,0 +1,11 @@
+use Rattle.std.proofs.Common.{string_bytes, codes}
+use Rattle.gotymbe_plan.proofs.MomentLemmas.{no_time_appended, appended_if_ok}
+use Rattle.gotymbe_plan.proofs.moments.push_no_time.Goals as goal
+
+pub returns : goal.returns
+returns c =
+    no_time_appended c.args.text.now (string_bytes c.args.out.now) (string_bytes c.push_str.new.self)
+    (string_bytes c.push_str-2.new.self) (string_bytes c.push_str-3.new.self) c.push_str-3.result
+    c.in_ok-push_str.ensures.bytes c.in_ok-push_str-2.ensures.bytes
+    (appended_if_ok (string_bytes c.push_str-2.new.self) (string_bytes c.push_str-3.new.self)
+    (codes "' says no time for --") c.push_str-3.result c.push_str-3.ensures.bytes)

@@ -1,5 +1,0 @@
-use Rattle.std.proofs.Common.{◌≡◌}
-use Rattle.trace_page.proofs.data.put_each_schema.Given as goal
-
-abbrev pub invariant-schemas : goal.invariant-schemas
-invariant-schemas l = l.out.before ≡ l.initial.out.before

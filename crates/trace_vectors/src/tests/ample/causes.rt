@@ -1,0 +1,178 @@
+//! Why no frame stands where an event is cut, of values of each size and at each depth and of each count of fields, and
+//! where frames of other kinds are.
+
+use crate::tests::ample::events::{absent, event, event_of};
+use crate::tests::ample::schemas::fields;
+use crate::tests::ample::{COUNTS, MILLION, SIZED, SIZES, value};
+use crate::tests::sinks::is_error;
+use crate::tests::traces::{ONE_EVENT, nested_lists};
+use dial9_trace_format::decoder::{DecodeErrorKind, FeedDecoder};
+use dial9_trace_format::types::{FieldType, FieldValue};
+use std::alloc::Global;
+use std::process::Abort;
+use std::test::Fail;
+
+/// A decoder that was fed these bytes tells that no frame stands at the front of what is left, for this reason and
+/// here, and that one may come.
+fn tells(alloc: Global, bytes: &[u8], kind: DecodeErrorKind, place: usize) -> Result<bool, Fail> {
+    let mut decoder = FeedDecoder::new(alloc);
+    decoder.feed(bytes)?;
+    let is_told = match decoder.cause()? {
+        Some(error) => is_error(&error, &kind, place),
+        None => false,
+    };
+    Ok(is_told && decoder.stuck().is_none())
+}
+
+/// It tells none.
+fn tells_none(alloc: Global, bytes: &[u8]) -> Result<bool, Fail> {
+    let mut decoder = FeedDecoder::new(alloc);
+    decoder.feed(bytes)?;
+    Ok(decoder.cause()?.is_none())
+}
+
+/// With the last byte no cause is told, and without it this one, here.
+fn check_cut(
+    rt: &impl Abort,
+    alloc: Global,
+    bytes: &[u8],
+    kind: DecodeErrorKind,
+    place: usize,
+) -> Result<(), Fail> {
+    let (_, front) = bytes.split_last().ok_or("no bytes")?;
+    assert!(rt; tells_none(alloc, bytes)?);
+    assert!(rt; tells(alloc, front, kind, place)?);
+    Ok(())
+}
+
+/// The cause of an event of this value that is cut lies where the value begins: of a field, and of one of the optional
+/// type.
+fn check_value(
+    rt: &impl Abort,
+    alloc: Global,
+    field_type: FieldType,
+    value: FieldValue,
+) -> Result<(), Fail> {
+    let values = [value];
+    let plain = event(alloc, field_type, &values)?;
+    check_cut(rt, alloc, &plain, DecodeErrorKind::TruncatedValue, 24)?;
+    let optional = event(alloc, field_type.optional(), &values)?;
+    check_cut(rt, alloc, &optional, DecodeErrorKind::TruncatedOptional, 25)
+}
+
+/// That of a value of this size.
+fn check_size(
+    rt: &impl Abort,
+    alloc: Global,
+    field_type: FieldType,
+    size: usize,
+) -> Result<(), Fail> {
+    let value = value(alloc, field_type, size)?;
+    check_value(rt, alloc, field_type, value)
+}
+
+#[test]
+fn values_of_each_size(rt: HostRuntime) -> Result<(), Fail> {
+    for field_type in SIZED {
+        for size in SIZES {
+            check_size(&rt, rt.alloc(), field_type, size)?;
+        }
+    }
+    Ok(())
+}
+
+#[test]
+fn values_of_a_million(rt: HostRuntime) -> Result<(), Fail> {
+    for field_type in SIZED {
+        check_size(&rt, rt.alloc(), field_type, MILLION)?;
+    }
+    Ok(())
+}
+
+#[test]
+fn values_at_each_depth(rt: HostRuntime) -> Result<(), Fail> {
+    for depth in 1..=33 {
+        let lists = nested_lists(rt.alloc(), depth, false)?;
+        check_value(&rt, rt.alloc(), FieldType::DynamicList, lists)?;
+    }
+    Ok(())
+}
+
+/// The cause of an event of so many absent values that is cut lies where the last is missing.
+fn check_fields(rt: &impl Abort, alloc: Global, count: usize) -> Result<(), Fail> {
+    let fields = fields(alloc, count, FieldType::OptionalU8)?;
+    let values = absent(alloc, count)?;
+    let bytes = event_of(alloc, fields, &values)?;
+    let last = count.saturating_mul(4).saturating_add(19);
+    check_cut(rt, alloc, &bytes, DecodeErrorKind::TruncatedPrefix, last)
+}
+
+#[test]
+fn events_of_each_count_of_fields(rt: HostRuntime) -> Result<(), Fail> {
+    for count in COUNTS {
+        if count > 0 {
+            check_fields(&rt, rt.alloc(), count)?;
+        }
+    }
+    check_fields(&rt, rt.alloc(), 65_535)
+}
+
+/// Bytes after a header, the schema `Ev` with the field `v: Varint` and an event of it at 1,000, in 26 bytes; why no
+/// frame stands there, and where.
+type Row = (&'static [u8], DecodeErrorKind, usize);
+
+const ROWS: [Row; 15] = [
+    // the wire id is cut
+    (&[2], DecodeErrorKind::TruncatedEvent, 26),
+    (&[2, 0], DecodeErrorKind::TruncatedEvent, 26),
+    // the delta
+    (&[2, 0, 1], DecodeErrorKind::TruncatedDelta, 29),
+    (&[2, 0, 1, 0, 0], DecodeErrorKind::TruncatedDelta, 29),
+    // the number
+    (&[2, 0, 1, 0, 0, 0], DecodeErrorKind::TruncatedValue, 32),
+    (
+        &[2, 0, 1, 0, 0, 0, 0x80],
+        DecodeErrorKind::TruncatedValue,
+        32,
+    ),
+    // a reset
+    (&[5], DecodeErrorKind::TruncatedReset, 26),
+    (
+        &[5, 0, 0, 0, 0, 0, 0, 0],
+        DecodeErrorKind::TruncatedReset,
+        26,
+    ),
+    // a header, a schema, pools of one entry, and annotations
+    (&[0x54, 0x52], DecodeErrorKind::NoFrame(0x54), 26),
+    (&[1, 1, 1, 1], DecodeErrorKind::NoFrame(1), 26),
+    (&[3, 1, 0, 0, 0], DecodeErrorKind::NoFrame(3), 26),
+    (
+        &[3, 1, 0, 0, 0, 0, 0, 0, 0, 1, 0, 0, 0],
+        DecodeErrorKind::NoFrame(3),
+        26,
+    ),
+    (&[4, 1, 0, 0, 0], DecodeErrorKind::NoFrame(4), 26),
+    (
+        &[4, 1, 0, 0, 0, 0, 0, 0, 0, 1, 0, 0, 0],
+        DecodeErrorKind::NoFrame(4),
+        26,
+    ),
+    (&[6, 0x80, 2, 1, 0], DecodeErrorKind::NoFrame(6), 26),
+];
+
+/// The cause of that event, whole, and then these bytes.
+fn tells_row(alloc: Global, cut: &[u8], kind: DecodeErrorKind, place: usize) -> Result<bool, Fail> {
+    let mut bytes = Vec::from_slice(alloc, &ONE_EVENT)?;
+    bytes.extend_from_slice(cut)?;
+    tells(alloc, bytes.as_slice(), kind, place)
+}
+
+#[test]
+fn cut_frames(rt: HostRuntime) -> Result<(), Fail> {
+    for (cut, kind, place) in ROWS {
+        assert!(rt; tells_row(rt.alloc(), cut, kind, place)?);
+    }
+    assert!(rt; tells_none(rt.alloc(), &ONE_EVENT)?);
+    assert!(rt; tells_none(rt.alloc(), &[])?);
+    Ok(())
+}
