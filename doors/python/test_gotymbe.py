@@ -218,11 +218,11 @@ class Doors(unittest.TestCase):
 
     @staticmethod
     def heads(lines):
-        """The names and times of the lines of resolved events, where names are plain."""
-        words = [line.split(" timestamp_ns=", 1) for line in lines if " timestamp_ns=" in line]
-        name = re.compile(r"\\x([0-9A-F]{2})")
-        return [(name.sub(lambda it: chr(int(it[1], 16)), head[len('event "'):-1]).encode("latin-1").decode(),
-                 int(rest.split()[0])) for head, rest in words]
+        """The names and times of the lines of resolved events."""
+        events = [re.match(r'event "([^"]*)" timestamp_ns=(\d+)', line) for line in lines]
+        byte = re.compile(r"\\x([0-9A-F]{2})")
+        return [(byte.sub(lambda it: chr(int(it[1], 16)), it[1]).encode("latin-1").decode(), int(it[2]))
+                for it in events if it]
 
     def test_read_in_batches(self):
         """Each count of events at a time: the events, and the schemas, texts and stacks that each batch knows."""
