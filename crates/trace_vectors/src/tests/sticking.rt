@@ -224,13 +224,13 @@ fn numbers_without_an_end(rt: HostRuntime) -> Result<(), Fail> {
     Ok(())
 }
 
-/// The field of an event: so many lists of one item, one in the other, and the tag of a number.
+/// The field of an event: so many lists of one item, one in the other, up to the count of the last.
 fn deep(alloc: Global, lists: usize) -> Result<Vec<u8>, AllocError> {
     let mut bytes = Vec::new(alloc);
     for _ in 1..lists {
         bytes.extend_from_slice(&[1, 0, 0, 0, 14])?;
     }
-    bytes.extend_from_slice(&[1, 0, 0, 0, 9])?;
+    bytes.extend_from_slice(&[1, 0, 0, 0])?;
     Ok(bytes)
 }
 
@@ -244,7 +244,7 @@ fn lists_too_deep(rt: HostRuntime) -> Result<(), Fail> {
             &LISTS,
             event.as_slice(),
             DecodeErrorKind::TruncatedValue,
-            170
+            166
         )?
     );
     Ok(())

@@ -62,8 +62,11 @@ const HOLDERS: [Holder; 3] = [
     (0x0F, &[1, 0, 0, 0, 0x0B, 5], &[]),
 ];
 
-/// Tags of types: a truth, a text, a number, a map of texts, a list, a map, and an optional map.
-const HELD: [u8; 7] = [0x03, 0x04, 0x09, 0x0A, 0x0E, 0x0F, 0x8F];
+/// Tags of types that hold items: a list, a map, and the optional ones.
+const HELD: [u8; 4] = [0x0E, 0x0F, 0x8E, 0x8F];
+
+/// Counts of 1, of 16,777,216 and of 4,294,967,295.
+const SOME: [[u8; 4]; 3] = [[1, 0, 0, 0], [0, 0, 0, 1], [0xFF; 4]];
 
 /// The schema `Ev`, of wire id 256, with one field `v` of the type with this tag.
 fn schema_of(tag: u8) -> [u8; 14] {
@@ -130,22 +133,23 @@ fn nested(alloc: Global, holder: Holder, depth: usize) -> Result<Vec<u8>, AllocE
     Ok(bytes)
 }
 
-/// An item or a key of this type at depth 33 is none, as its tag shows.
-fn is_too_deep(alloc: Global, holder: Holder, held: u8) -> Result<bool, Fail> {
+/// A list or a map of this type at depth 32 holds nothing, as its count shows.
+fn is_too_deep(alloc: Global, holder: Holder, held: u8, count: [u8; 4]) -> Result<bool, Fail> {
     let (tag, _, _) = holder;
     let mut event = nested(alloc, holder, 32)?;
-    event.push(tag)?;
-    event.extend_from_slice(&[1, 0, 0, 0])?;
-    let place = event.len();
     event.push(held)?;
+    let place = event.len();
+    event.extend_from_slice(&count)?;
     shows_field(alloc, tag, event.as_slice(), place)
 }
 
 #[test]
-fn values_at_depth_33(rt: HostRuntime) -> Result<(), Fail> {
+fn items_at_depth_33(rt: HostRuntime) -> Result<(), Fail> {
     for holder in HOLDERS {
         for held in HELD {
-            assert!(rt; is_too_deep(rt.alloc(), holder, held)?);
+            for count in SOME {
+                assert!(rt; is_too_deep(rt.alloc(), holder, held, count)?);
+            }
         }
     }
     Ok(())
