@@ -10,6 +10,8 @@ const SIZES = { __proto__: null, B: 1, KiB: 1024, MiB: 1024 ** 2, GiB: 1024 ** 3
 const MOST_ROWS = 64; // of slices on a track
 const MOST_ITEMS = 200; // of a list, a map or a stack that are shown as text
 const MOST_LINES = 1000; // of fields, frames and schemas that are listed
+const MOST_LENGTH = 2 ** 64; // of a slice, in nanoseconds (the double beside 2^64 - 1)
+const [LEAST_SUM, MOST_SUM] = [-(2n ** 63n), 2n ** 63n - 1n]; // of a counter's steps
 const ELLIPSIS = "\u2026";
 
 let trace = null; // what the data says, and what is worked out of it once (readTrace)
@@ -53,7 +55,8 @@ function makeSchema(schema, index) {
     fields,
     shape: begin !== null ? BEGIN : end !== null ? END : duration !== null ? SLICE : INSTANT,
     group: begin ?? end,
-    counters: fields.filter((it) => it.counter !== null && isNumber(it.kind)),
+    // (steps are whole numbers)
+    counters: fields.filter((it) => (it.counter === "gauge" ? isNumber(it.kind) : it.counter && isWhole(it.kind))),
     stacks: fields.filter((it) => it.kind === "StackFrames"),
     count: 0,
     listed: 0,
@@ -69,11 +72,16 @@ function readTrace() {
   if (data.format !== 1) throw new Error(`its data is of format ${data.format}, and this page reads format 1`);
   const { schema, time, values } = data.events;
   const count = schema.length;
+  // Where two schemas are alike in all that the data tells of them, annotations differ of which it tells nothing, as
+  // clocks are. So each may be of a clock of its own.
+  const told = data.schemas.map(({ name, roles, fields }) => JSON.stringify([name, roles, fields]));
+  const hasTwins = new Set(told).size < told.length;
   trace = {
     name: data.name,
     end: data.end,
     start: BigInt(data.start),
-    zero: data.zero === null ? null : BigInt(data.zero),
+    zero: data.zero === null || hasTwins ? null : BigInt(data.zero),
+    hasNoDates: data.zero !== null && hasTwins,
     schemas: data.schemas.map(makeSchema),
     strings: data.strings,
     stacks: data.stacks,
@@ -110,12 +118,17 @@ function readEvent(event) {
 const schemaOf = (event) => trace.schemas[trace.schemaOf[event]];
 const valueOf = (event, field) => trace.values[trace.valuesAt[event] + field.at];
 
-// The name of an event: the text of its field of that role, else its group, else its schema's name.
+// What an event is: by its schema, but an instant where its track is an id under which the trace has nothing.
+const shapeOf = (event) => (trace.isLost[event] ? INSTANT : schemaOf(event).shape);
+
+// The name of an event: the text or the whole number of its field of that role, else its group, else its schema's name.
 function labelOf(event) {
   const schema = schemaOf(event);
   const field = schema.fields[schema.roles.name];
-  const value = field?.kind === "String" ? valueOf(event, field) : null;
-  return typeof value === "number" ? trace.strings[value] : schema.group ?? schema.name;
+  const value = field ? valueOf(event, field) : null;
+  if (value === null || typeof value === "object") return schema.group ?? schema.name;
+  if (isWhole(field.kind)) return String(value);
+  return field.kind === "String" ? trace.strings[value] : schema.group ?? schema.name;
 }
 
 // The number that a value is, as near as a double comes; NaN where it is none.
@@ -141,10 +154,12 @@ function findTracks() {
     return track;
   };
   const found = [];
+  trace.isLost = new Uint8Array(trace.count);
   for (let event = 0; event < trace.count; event++) {
     const schema = schemaOf(event);
     const field = schema.fields[schema.roles.tid];
     const value = field ? valueOf(event, field) : null;
+    if (field?.kind === "String" && value !== null && typeof value === "object") trace.isLost[event] = 1;
     const isId = value !== null && typeof value !== "object";
     if (isId && isWhole(field.kind)) found.push(find("number", value, () => `${field.name} ${value}`));
     else if (isId && field.kind === "String") found.push(find("text", value, () => trace.strings[value]));
@@ -166,16 +181,17 @@ function pairEvents() {
   trace.partner = new Int32Array(trace.count).fill(NONE);
   for (let event = 0; event < trace.count; event++) {
     const schema = schemaOf(event);
+    const shape = shapeOf(event);
     const time = trace.time[event];
-    if (schema.shape === SLICE) {
+    if (shape === SLICE) {
       const field = schema.fields[schema.roles.duration];
       const length = numberOf(valueOf(event, field)) * (TIMES[field.unit] ?? 1);
-      trace.length[event] = isNumber(field.kind) && length > 0 && length < Infinity ? length : 0;
-    } else if (schema.shape === BEGIN) {
+      trace.length[event] = isNumber(field.kind) && length > 0 && length < Infinity ? Math.min(length, MOST_LENGTH) : 0;
+    } else if (shape === BEGIN) {
       const open = trace.tracks[trace.trackOf[event]].open;
       if (!open.has(schema.group)) open.set(schema.group, []);
       open.get(schema.group).push(event);
-    } else if (schema.shape === END) {
+    } else if (shape === END) {
       const begin = trace.tracks[trace.trackOf[event]].open.get(schema.group)?.pop() ?? NONE;
       if (begin === NONE) continue;
       trace.partner[event] = begin;
@@ -188,7 +204,7 @@ function pairEvents() {
   for (const begin of left) trace.length[begin] = Math.max(0, trace.most - trace.time[begin]);
 }
 
-const isOpen = (event) => schemaOf(event).shape === BEGIN && trace.partner[event] === NONE;
+const isOpen = (event) => shapeOf(event) === BEGIN && trace.partner[event] === NONE;
 const endTime = (event) => trace.time[event] + Math.max(0, trace.length[event]);
 
 // A lane is a row of the timeline: the instants of a track, a row of its slices, or the line of a counter. Its events
@@ -208,10 +224,9 @@ function makeLane(sort, track, height, events, values) {
 function makeLanes() {
   const parts = trace.tracks.map(() => ({ marks: [], slices: [] }));
   for (let event = 0; event < trace.count; event++) {
-    const { shape, counters } = schemaOf(event);
     const part = parts[trace.trackOf[event]];
     if (trace.length[event] >= 0) part.slices.push(event);
-    else if (shape === END ? trace.partner[event] === NONE : counters.length === 0) part.marks.push(event);
+    else if (shapeOf(event) === END ? trace.partner[event] === NONE : !isCounted(event)) part.marks.push(event);
   }
   trace.lanes = [];
   trace.tracks.forEach((track, at) => {
@@ -219,8 +234,7 @@ function makeLanes() {
     if (marks.length) trace.lanes.push(makeLane("marks", track, 16, inOrder(marks)));
     for (const row of makeRows(inOrder(slices))) trace.lanes.push(makeLane("slices", track, 19, row));
   });
-  for (const schema of trace.schemas)
-    if (schema.counters.length) for (const lane of makeCounters(schema)) trace.lanes.push(lane);
+  for (const lane of makeCounters()) trace.lanes.push(lane);
   trace.laneOf = new Int32Array(trace.count).fill(NONE);
   let y = 0;
   trace.lanes.forEach((lane, at) => {
@@ -232,7 +246,7 @@ function makeLanes() {
   });
   trace.height = y;
   for (let event = 0; event < trace.count; event++) {
-    const begin = schemaOf(event).shape === END ? trace.partner[event] : NONE;
+    const begin = shapeOf(event) === END ? trace.partner[event] : NONE;
     if (begin !== NONE) trace.laneOf[event] = trace.laneOf[begin];
   }
 }
@@ -262,27 +276,58 @@ function makeRows(slices) {
   return rows;
 }
 
-// The lines of the counters of a schema: one for each of its counter fields and each track of its events.
-function makeCounters(schema) {
+// The number that a counter's value shows: that of a gauge, and a step of any other; NaN where it shows none.
+function shownBy(field, value) {
+  if (value === null || typeof value === "object") return NaN;
+  const number = Number(value);
+  if (field.counter === "gauge") return Number.isFinite(number) ? number : NaN;
+  return field.counter === "counter" && number < 0 ? 0 : number;
+}
+
+// Whether a counter shows an event, which then needs no mark of its own.
+const isCounted = (event) =>
+  schemaOf(event).counters.some((field) => !Number.isNaN(shownBy(field, valueOf(event, field))));
+
+// A sum after a step, which is a value of a trace. A sum is a number where that is exact, else a BigInt, and stays
+// between the least and the greatest number of 64 bits.
+function stepped(sum, value, step) {
+  const quick = typeof sum === "number" && typeof value === "number" ? sum + step : NaN;
+  if (Number.isSafeInteger(quick)) return quick;
+  const exact = BigInt(sum) + atMost(step === 0 ? 0n : BigInt(value));
+  const kept = exact < LEAST_SUM ? LEAST_SUM : atMost(exact);
+  return Number.isSafeInteger(Number(kept)) ? Number(kept) : kept;
+}
+
+const atMost = (whole) => (whole > MOST_SUM ? MOST_SUM : whole);
+
+// The lines of all counters: one for each name of a schema, name of a field, and track of their events.
+function makeCounters() {
+  const names = new Map();
+  const numberOfName = (name) => names.get(name) ?? names.set(name, names.size).get(name);
+  const fields = trace.schemas.map((schema) => schema.counters.map((field) =>
+    ({ field, schema, number: numberOfName(JSON.stringify([schema.name, field.name])) })));
   const lines = new Map();
   for (let event = 0; event < trace.count; event++) {
-    if (trace.schemaOf[event] !== schema.index) continue;
-    for (const field of schema.counters) {
-      const value = numberOf(valueOf(event, field) ?? NaN);
-      if (!Number.isFinite(value)) continue;
-      const key = field.at * trace.tracks.length + trace.trackOf[event];
+    for (const { field, schema, number } of fields[trace.schemaOf[event]]) {
+      const value = valueOf(event, field);
+      const shown = shownBy(field, value);
+      if (Number.isNaN(shown)) continue;
+      const track = trace.trackOf[event];
+      const key = number * trace.tracks.length + track;
       let line = lines.get(key);
-      if (!line) lines.set(key, (line = { field, track: trace.tracks[trace.trackOf[event]], events: [], values: [] }));
-      line.events.push(event);
-      line.values.push(field.counter === "gauge" ? value : value + (line.values.at(-1) ?? 0));
+      if (!line) lines.set(key, (line = { key, field, schema, track, events: [], values: [], sum: 0 }));
+      if (field.counter !== "gauge") line.sum = stepped(line.sum, value, shown);
+      // (of two fields with one name the last counts)
+      const at = line.events.at(-1) === event ? line.events.length - 1 : line.events.length;
+      line.events[at] = event;
+      line.values[at] = field.counter === "gauge" ? shown : Number(line.sum);
     }
   }
-  return [...lines.values()].sort((a, b) => a.field.at - b.field.at || a.track.at - b.track.at).map((line) => {
-    const { field, track } = line;
-    const byEvent = new Map(trace.ordered ? [] : line.events.map((event, at) => [event, line.values[at]]));
-    const events = trace.ordered ? line.events : line.events.sort(laneOrder);
-    const values = trace.ordered ? line.values : events.map((event) => byEvent.get(event));
-    const lane = makeLane("counter", track, 42, events, values);
+  return [...lines.values()].sort((a, b) => a.key - b.key).map(({ field, schema, track, events, values }) => {
+    const byEvent = new Map(trace.ordered ? [] : events.map((event, at) => [event, values[at]]));
+    const ordered = trace.ordered ? events : events.sort(laneOrder);
+    const lane = makeLane("counter", trace.tracks[track], 42, ordered,
+      trace.ordered ? values : ordered.map((event) => byEvent.get(event)));
     const least = lane.values.reduce((a, b) => Math.min(a, b), 0);
     const most = lane.values.reduce((a, b) => Math.max(a, b), 0);
     return Object.assign(lane, { field, schema, least, most: most === least ? 1 : most });
@@ -387,8 +432,8 @@ function shown(text, most = 4000) {
     `\\u${it.charCodeAt(0).toString(16).padStart(4, "0")}`);
 }
 
-// What stands between two other texts, however it is written.
-const isolated = (text, most) => make("bdi", {}, shown(text, most));
+// What stands between two other texts, however it is written. A number goes from left to right, whatever its unit.
+const isolated = (text, most, isNumber = false) => make("bdi", isNumber ? { dir: "ltr" } : {}, shown(text, most));
 
 function counted(count, one, many) {
   return `${grouped(count)} ${count === 1 ? one : many}`;
@@ -707,6 +752,7 @@ const timeline = {
   to: 1,
   gutter: 160, // the width of the names
   width: 0,
+  stride: 1, // between the times of the ruler
   hover: NONE,
   lane: NONE, // the index of the lane that was clicked or gone to
   drag: null,
@@ -788,6 +834,7 @@ function drawTimeline() {
   timeline.width = box.clientWidth;
   timeline.gutter = box.clientWidth < 860 ? 116 : 168;
   const pen = penOf(canvas, box, HEAD + trace.height);
+  timeline.stride = strideOf(pen);
   drawGrid(pen);
   pen.save();
   pen.beginPath();
@@ -818,14 +865,20 @@ function* seenLanes() {
   }
 }
 
-// The times of the ruler: steps of one, two or five, with room for their texts.
+// The steps of the ruler: of one, two or five, with room for their texts.
+function strideOf(pen) {
+  const { from, to, gutter, width } = timeline;
+  const each = Math.max(104, width - gutter) / (to - from); // pixels
+  const room = (stride) =>
+    Math.max(80, ...[from, to].map((time) => pen.measureText(tickText(time, stride)).width)) + 24;
+  for (let power = 10 ** Math.max(0, Math.floor(Math.log10(104 / each))); ; power *= 10)
+    for (const stride of [power, 2 * power, 5 * power]) if (stride * each >= room(stride)) return stride;
+}
+
+// The times of the ruler.
 function* ticks() {
-  const span = timeline.to - timeline.from;
-  const least = span * 104 / Math.max(104, timeline.width - timeline.gutter);
-  const power = 10 ** Math.max(0, Math.floor(Math.log10(least)));
-  const stride = [1, 2, 5, 10].map((it) => it * power).find((it) => it >= least) ?? power * 10;
-  const first = Math.ceil(timeline.from / stride);
-  for (let at = first; at * stride <= timeline.to; at++) yield [at * stride, stride];
+  const { from, to, stride } = timeline;
+  for (let at = Math.ceil(from / stride); at * stride <= to; at++) yield at * stride;
 }
 
 // The text of a time of the ruler, in the unit of the steps.
@@ -838,19 +891,25 @@ function tickText(time, stride) {
 
 function drawGrid(pen) {
   pen.fillStyle = colours.faint;
-  for (const [time] of ticks()) pen.fillRect(Math.round(placeOf(time)), HEAD, 1, timeline.box.clientHeight);
+  for (const time of ticks()) pen.fillRect(Math.round(placeOf(time)), HEAD, 1, timeline.box.clientHeight);
 }
 
 function drawRuler(pen) {
-  const { gutter, width } = timeline;
+  const { gutter, width, stride } = timeline;
   pen.fillStyle = colours.ground;
   pen.fillRect(gutter, OVERVIEW, width, HEAD - OVERVIEW);
   pen.fillStyle = colours.muted;
-  for (const [time, stride] of ticks()) {
+  let free = gutter;
+  for (const time of ticks()) {
     const x = Math.round(placeOf(time));
     if (x < gutter) continue;
     pen.fillRect(x, HEAD - 6, 1, 6);
-    pen.fillText(tickText(time, stride), x + 4, OVERVIEW + 11);
+    const text = tickText(time, stride);
+    const size = widthOf(pen, text);
+    // (the last one ends where the ruler does)
+    const left = Math.min(x + 4, width - size - 4);
+    if (left >= free) pen.fillText(text, left, OVERVIEW + 11);
+    free = left + size + 8;
   }
   pen.fillStyle = colours.raised;
   pen.fillRect(0, 0, gutter, HEAD);
@@ -1188,10 +1247,18 @@ function hover(pointer) {
   timeline.hover = event;
   if (event === NONE) return hideTip();
   const length = trace.length[event] >= 0 ? `${timeText(trace.length[event])} long, ` : "";
-  const field = laneAt(pointer.offsetY)?.field;
   const lines = [labelOf(event), `${length}at ${timeText(trace.time[event])}`];
-  if (field) lines.push(`${field.name} ${valueText(field, valueOf(event, field))}`);
+  const lane = laneAt(pointer.offsetY);
+  if (lane?.sort === "counter") lines.push(counterText(lane, event));
   showTip(pointer, lines);
+}
+
+// What a counter shows at an event: the number of a gauge, or the sum and the step.
+function counterText(lane, event) {
+  const field = schemaOf(event).counters.findLast((it) => it.name === lane.field.name);
+  const value = valueText(field, valueOf(event, field));
+  if (field.counter === "gauge") return `${field.name} ${value}`;
+  return `${field.name} ${numberText(lane.field, lane.values[placeIn(lane, event)])}, by a step of ${value}`;
 }
 
 function showTip({ clientX, clientY }, lines) {
@@ -1232,7 +1299,7 @@ function laneOfKeys() {
 
 // The event that is drawn for one: the begin for its end.
 function drawnFor(event) {
-  const begin = event !== NONE && schemaOf(event).shape === END ? trace.partner[event] : NONE;
+  const begin = event !== NONE && shapeOf(event) === END ? trace.partner[event] : NONE;
   return begin === NONE ? event : begin;
 }
 
@@ -1364,8 +1431,8 @@ function timeCell(event) {
 
 function fieldNodes(event) {
   return schemaOf(event).fields.slice(0, MOST_COLUMNS).filter((field) => valueOf(event, field) !== null)
-    .flatMap((field) => [make("span", { className: "key" }, shown(field.name, 60)),
-      isolated(valueText(field, valueOf(event, field)), 120)]);
+    .flatMap((field) => [make("bdi", { className: "key" }, shown(field.name, 60)),
+      isolated(valueText(field, valueOf(event, field)), 120, isNumber(field.kind))]);
 }
 
 // Orders the listed events as the table's head says.
@@ -1468,7 +1535,7 @@ function fillRows(body, events, first) {
     row.replaceChildren(...table.columns.map((column) => {
       const cell = make("td", { className: column.isNumber ? "number" : "" });
       if (column.nodes) cell.append(...column.nodes(event));
-      else cell.append(isolated(column.text(event), 300));
+      else cell.append(isolated(column.text(event), 300, column.isNumber));
       return cell;
     }));
   });
@@ -1814,7 +1881,7 @@ function showDetails() {
   parts.push(...warnings(event), placeTable(event), make("h3", {}, "Fields"), fieldTable(event));
   const { partner } = trace;
   if (partner[event] !== NONE) {
-    const isEnd = schema.shape === END;
+    const isEnd = shapeOf(event) === END;
     parts.push(make("h3", {}, isEnd ? "Fields of its begin" : "Fields of its end"), fieldTable(partner[event]));
   }
   for (const field of schema.stacks) parts.push(...stackList(field, valueOf(event, field)));
@@ -1824,7 +1891,7 @@ function showDetails() {
 
 function warnings(event) {
   const warning = (text) => [make("p", { className: "warning" }, text)];
-  const isEnd = schemaOf(event).shape === END;
+  const isEnd = shapeOf(event) === END;
   if (isOpen(event)) return warning("It has no end in this trace.");
   if (isEnd && trace.partner[event] === NONE) return warning("It has no begin in this trace.");
   const isUnknown = (field) => !Array.isArray(valueOf(event, field)) && typeof valueOf(event, field) === "object";
@@ -1869,7 +1936,9 @@ function fieldTable(event) {
     const isAll = unit === field.unit && Number(number.replaceAll(",", "")) === numberOf(value);
     const digits = isWhole(field.kind) ? exactly(plain, 0) : plain;
     const detail = isShort && !isAll ? [exact(`${digits} ${field.unit}`)] : [];
-    return rowOf(field.name, make("bdi", { className: value === null ? "muted" : "" }, shown(text)), ...detail);
+    const cell = isolated(text, 4000, isNumber(field.kind));
+    cell.className = value === null ? "muted" : "";
+    return rowOf(field.name, cell, ...detail);
   }), ...last);
 }
 
@@ -2015,10 +2084,13 @@ function showFacts() {
   }
   byId("facts").textContent = byId("facts").title = parts.join(" \u00b7 ");
   if (trace.end !== null) notice(`This trace was not read to its end: ${trace.end}`);
+  if (trace.hasNoDates) notice("There are no dates, since the events may be of several clocks. " +
+    "Then their times are not to be compared.");
 }
 
+// Says something above all else, below what was said there before.
 function notice(text) {
-  byId("notice").textContent = shown(text);
+  byId("notice").append(make("p", {}, shown(text)));
   byId("notice").hidden = false;
 }
 
