@@ -208,14 +208,18 @@ const isOpen = (event) => shapeOf(event) === BEGIN && trace.partner[event] === N
 const endTime = (event) => trace.time[event] + Math.max(0, trace.length[event]);
 
 // A lane is a row of the timeline: the instants of a track, a row of its slices, or the line of a counter. Its events
-// stand by their begin.
+// stand by their begin. `reach` is how far those up to a place go: where they lie over each other, an earlier one may
+// end later.
 function makeLane(sort, track, height, events, values) {
   const lane = { sort, track, height, y: 0, found: null, events: new Uint32Array(events) };
   lane.start = new Float64Array(events.length);
   lane.end = sort === "slices" ? new Float64Array(events.length) : lane.start;
+  lane.reach = sort === "slices" ? new Float64Array(events.length) : lane.start;
   for (let at = 0; at < events.length; at++) {
     lane.start[at] = trace.time[events[at]];
-    if (sort === "slices") lane.end[at] = endTime(events[at]);
+    if (sort !== "slices") continue;
+    lane.end[at] = endTime(events[at]);
+    lane.reach[at] = at > 0 ? Math.max(lane.reach[at - 1], lane.end[at]) : lane.end[at];
   }
   if (values) lane.values = new Float64Array(values);
   return lane;
@@ -782,7 +786,8 @@ function look(from, to) {
 }
 
 function wholeSpan() {
-  const pad = (trace.most - trace.least) * 0.01 || 500;
+  const long = trace.most - trace.least;
+  const pad = long ? Math.max(long * 0.01, (LEAST_SPAN - long) / 2) : 500;
   return { from: trace.least - pad, to: trace.most + pad };
 }
 
@@ -925,14 +930,18 @@ function drawRuler(pen) {
 const isFaint = (lane, from, to) => lane.found !== null && lane.found[from] === lane.found[to];
 
 function drawSlices(pen, lane, y) {
-  const { events, start, end } = lane;
+  const { events, start, end, reach } = lane;
   const { from, to } = timeline;
   const size = events.length;
-  let at = firstAt(size, (at) => end[at] >= from);
+  let at = firstAt(size, (at) => reach[at] >= from);
   while (at < size && start[at] <= to) {
     const left = placeSeen(start[at]);
     const right = placeSeen(end[at]);
     let next = at + 1;
+    if (end[at] < from) {
+      at = next;
+      continue;
+    }
     // slices that are thinner than a column are drawn as one
     if (right - left < 1) {
       const edge = timeAt(Math.floor(left) + 1);
@@ -946,7 +955,7 @@ function drawSlices(pen, lane, y) {
 // A place in a lane after this one, before which all events end before this time.
 function leap(lane, at, edge) {
   let by = 1;
-  while (at + by < lane.end.length && lane.end[at + by] < edge) by *= 2;
+  while (at + by < lane.reach.length && lane.reach[at + by] < edge) by *= 2;
   return at + (by >> 1 || 1);
 }
 
@@ -1156,15 +1165,15 @@ function laneAt(y) {
 function eventAt(x, y) {
   const lane = x > timeline.gutter && y > HEAD ? laneAt(y) : null;
   if (lane === null) return NONE;
-  const { events, start, end } = lane;
+  const { events, start, end, reach } = lane;
   const time = timeAt(x);
-  const reach = timeAt(x + 4) - time;
+  const most = timeAt(x + 4) - time;
   const after = firstAt(start.length, (at) => start[at] > time);
   if (lane.sort === "counter") return after > 0 ? events[after - 1] : NONE;
-  if (after > 0 && end[after - 1] >= time) return events[after - 1];
+  for (let at = after - 1; at >= 0 && reach[at] >= time; at--) if (end[at] >= time) return events[at];
   const before = after > 0 ? time - end[after - 1] : Infinity;
   const ahead = after < start.length ? start[after] - time : Infinity;
-  if (Math.min(before, ahead) > reach) return NONE;
+  if (Math.min(before, ahead) > most) return NONE;
   return events[before <= ahead ? after - 1 : after];
 }
 
@@ -1469,7 +1478,7 @@ function drawTable() {
   const height = TABLE_HEAD + Math.min(HIGHEST, rows.length * ROW);
   const [sheet] = box.children;
   sheet.style.height = `${height}px`;
-  sheet.style.minWidth = `${table.columns.reduce((sum, it) => sum + (it.width || 360), 0)}px`;
+  sheet.style.minWidth = `${table.columns.reduce((sum, it) => sum + (it.width || 300), 0)}px`;
   const seen = Math.max(1, Math.floor((box.clientHeight - TABLE_HEAD) / ROW));
   const last = Math.max(0, rows.length - seen);
   if (table.reveal !== NONE) revealRow(seen, last);
@@ -2056,7 +2065,9 @@ function startControls() {
 function startDivider() {
   const divider = byId("divider");
   const main = divider.parentElement;
+  let wish = 0;
   const set = (height) => {
+    wish = height;
     const most = main.clientHeight - 160;
     main.style.setProperty("--timeline", `${Math.round(Math.max(HEAD + 40, Math.min(most, height)))}px`);
     drawSoon();
@@ -2068,6 +2079,7 @@ function startDivider() {
   });
   onKeys(divider, { ArrowUp: () => set(height() - 24), ArrowDown: () => set(height() + 24) });
   set(Math.min(HEAD + trace.height + 12, main.clientHeight * 0.52));
+  new ResizeObserver(() => set(wish)).observe(main);
 }
 
 // What the head of the page says of the trace.
