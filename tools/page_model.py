@@ -60,6 +60,9 @@ class Event:
         return self.fields()[self.roles[name]] if self.roles[name] is not None else (None, None, None, None)
 
     def shape(self):
+        _, kind, _, value = self.role("tid")
+        if kind == "String" and isinstance(value, dict):
+            return "instant"
         order = ("begin", "begin"), ("end", "end"), ("duration", "slice")
         return next((shape for role, shape in order if self.roles[role] is not None), "instant")
 
@@ -68,7 +71,20 @@ class Event:
 
     def label(self):
         _, kind, _, value = self.role("name")
+        if kind in ("I64", "Varint") and isinstance(value, (int, str)):
+            return str(value)
         return self.data["strings"][value] if kind == "String" and isinstance(value, int) else self.base_name()
+
+    def counted(self):
+        """The names of its counters, whether each is a gauge, and the number that each shows."""
+        for name, kind, field, value in self.fields():
+            if field["counter"] is None or not is_number(kind) or value is None or isinstance(value, dict):
+                continue
+            if field["counter"] != "gauge" and kind != "F64":
+                step = min(int(value), 2**63 - 1)
+                yield name, False, max(0, step) if field["counter"] == "counter" else step
+            elif field["counter"] == "gauge" and float(value) - float(value) == 0:
+                yield name, True, float(value)
 
     def track(self):
         """What its track is known by: its sort, and what it has for a key."""
@@ -111,7 +127,7 @@ class Model:
                 _, kind, field, value = event.role("duration")
                 number = float(value) if is_number(kind) and isinstance(value, (int, float, str)) else 0
                 length = number * (SCALES[field["unit"]] if field["unit"] in TIMES else 1)
-                event.length = length if 0 < length < float("inf") else 0
+                event.length = min(length, 2**64) if 0 < length < float("inf") else 0
             elif event.shape() == "begin":
                 opened.setdefault(key, []).append(event)
             elif event.shape() == "end" and opened.get(key):
@@ -129,31 +145,28 @@ class Model:
         for key in sorted(self.tracks, key=lambda it: (it[0], it[1] if it[0] < 2 else order[it])):
             events = [event for event in self.events if event.track() == key]
             marks = [event for event in events if event.length is None and event.partner is None and not (
-                event.shape() == "instant" and any(field["counter"] for field in event.schema["fields"]))]
+                event.shape() == "instant" and any(event.counted()))]
             rows = []
             for event in sorted((event for event in events if event.length is not None),
                                 key=lambda it: (it.place, -it.length, it.number)):
-                at = next((at for at, row in enumerate(rows) if row[-1].end() <= event.place), len(rows))
+                at = next((at for at, row in enumerate(rows) if row[-1].end() <= event.place or at == 63), len(rows))
                 rows[at:at + 1] = [rows[at] + [event]] if at < len(rows) else [[event]]
             name = self.tracks[key]
             found += [["marks", name, len(marks)]] * bool(marks) + [["slices", name, len(row)] for row in rows]
         return found
 
     def counters(self):
-        """The schema, field and track of each counter, how many points it has, and its last value."""
-        found = {}
-        for schema in self.data["schemas"]:
-            for at, field in enumerate(schema["fields"]):
-                if field["counter"] is None or not is_number(kind_of(field["type"])):
-                    continue
-                for event in (event for event in self.events if event.schema is schema):
-                    value = float("nan") if event.values[at] is None else float(event.values[at])
-                    if value - value != 0:
-                        continue
-                    key = schema["name"], field["name"], self.tracks[event.track()]
-                    points, last = found.get(key, (0, 0))
-                    found[key] = points + 1, value if field["counter"] == "gauge" else last + value
-        return sorted([*key, *it] for key, it in found.items())
+        """The schema, field and track of each counter, the events that it shows, and its value at each."""
+        found, sums = {}, {}
+        for event in self.events:
+            for name, is_gauge, number in event.counted():
+                key = event.schema["name"], name, self.tracks[event.track()]
+                if not is_gauge:
+                    number = sums[key] = max(-2**63, min(2**63 - 1, sums.get(key, 0) + number))
+                found.setdefault(key, {})[event] = float(number)
+        order = {key: sorted(its, key=lambda it: (it.place, it.number)) for key, its in found.items()}
+        return sorted([*key, [it.number for it in order[key]], [its[it] for it in order[key]]]
+                      for key, its in found.items())
 
     # (search)
 

@@ -255,7 +255,10 @@ function makeLanes() {
   }
 }
 
-// Which of two events comes first in a lane: the one that begins first, and of those that begin together the longest.
+// Which of two events comes first: the one that begins first, and of those that begin together the first of the trace.
+const timeOrder = (a, b) => trace.time[a] - trace.time[b] || a - b;
+
+// Which of two events comes first in a lane: of those that begin together the longest.
 function laneOrder(a, b) {
   return trace.time[a] - trace.time[b] || trace.length[b] - trace.length[a] || a - b;
 }
@@ -329,7 +332,7 @@ function makeCounters() {
   }
   return [...lines.values()].sort((a, b) => a.key - b.key).map(({ field, schema, track, events, values }) => {
     const byEvent = new Map(trace.ordered ? [] : events.map((event, at) => [event, values[at]]));
-    const ordered = trace.ordered ? events : events.sort(laneOrder);
+    const ordered = trace.ordered ? events : events.sort(timeOrder);
     const lane = makeLane("counter", trace.tracks[track], 42, ordered,
       trace.ordered ? values : ordered.map((event) => byEvent.get(event)));
     const least = lane.values.reduce((a, b) => Math.min(a, b), 0);
@@ -587,7 +590,7 @@ function listEvents() {
     trace.schemas[trace.schemaOf[event]].listed++;
   }
   chosen.listed = left.slice(0, count);
-  if (!trace.ordered) chosen.listed.sort((a, b) => trace.time[a] - trace.time[b] || a - b);
+  if (!trace.ordered) chosen.listed.sort(timeOrder);
   table.stale = flame.stale = summary.stale = true;
   showChosen();
   drawSoon();
