@@ -140,9 +140,14 @@ class Model:
 
     def lanes(self):
         """The sort, the track and the size of each row of the timeline that has no counter."""
-        order = {key: at for at, key in enumerate(self.tracks)}
-        found = []
-        for key in sorted(self.tracks, key=lambda it: (it[0], it[1] if it[0] < 2 else order[it])):
+        order, found = {key: at for at, key in enumerate(self.tracks)}, []
+
+        def place(key):
+            # (numbers in texts stand by their size)
+            by_size = key[0] == 1 and re.sub("[0-9]+", lambda it: it[0].rjust(20, "0"), key[1])
+            return key[0], order[key] if key[0] == 2 else by_size or key[1]
+
+        for key in sorted(self.tracks, key=place):
             events = [event for event in self.events if event.track() == key]
             marks = [event for event in events if event.length is None and event.partner is None and not (
                 event.shape() == "instant" and any(event.counted()))]
@@ -267,6 +272,6 @@ class Model:
         return str(value)
 
 
-def shown(text):
+def shown(text, most=4000):
     escape = r"[\x00-\x1f\x7f-\x9f\u2028\u2029\u202a-\u202e\u2066-\u2069\ufeff]"
-    return re.sub(escape, lambda it: f"\\u{ord(it[0]):04x}", text if len(text) <= 4000 else text[:3999] + "…")
+    return re.sub(escape, lambda it: f"\\u{ord(it[0]):04x}", text if len(text) <= most else text[:most - 1] + "…")

@@ -7,8 +7,8 @@ pub const HEAD: &str = "<!doctype html>
 <head>
 <meta charset=\"utf-8\">
 <meta http-equiv=\"Content-Security-Policy\" content=\"default-src 'none';
-  script-src 'sha256-slV3zpfPdAMQ9tYL1Nj75rN9wapd0xb6xApKOWRh87Q=';
-  style-src 'sha256-RZqeA5J2fII/pRIXcZhWLFpWxtvUyWWJbPtSHcJmgXk=';
+  script-src 'sha256-+EbXwBA/eec5a9/St3WMGGL3qLMozVmSmbuxFbJUyig=';
+  style-src 'sha256-7Ce6TegYy3iLcNdVChw1ebDIc3OwkziIPAnwY40L0Lc=';
   img-src data:;
   base-uri 'none';
   form-action 'none';
@@ -265,11 +265,12 @@ td .key ~ .key { margin-left: 14px; }
 #summary td button { height: 22px; padding: 0; color: var(--accent); background: none; border: none; }
 #summary td button:hover { text-decoration: underline; }
 
-.empty { padding: 24px 12px; color: var(--muted); text-align: center; }
+.empty { padding: 24px 12px; color: var(--muted); }
 
 /* The details of the selected event */
 
-#details h2 { margin-bottom: 2px; overflow-wrap: anywhere; }
+#details h2, #details p { overflow-wrap: anywhere; }
+#details h2 { margin-bottom: 2px; }
 #details h3 { margin: 14px 0 4px; color: var(--muted); font-size: 12px; font-weight: 400; }
 #details table { width: 100%; margin-top: 6px; table-layout: fixed; }
 #details td { padding: 3px 0; vertical-align: top; white-space: pre-wrap; overflow-wrap: anywhere; }
@@ -431,6 +432,7 @@ const TIMES = { __proto__: null, ns: 1, us: 1e3, ms: 1e6, s: 1e9 };
 const SIZES = { __proto__: null, B: 1, KiB: 1024, MiB: 1024 ** 2, GiB: 1024 ** 3 };
 const MOST_ROWS = 64; // of slices on a track
 const MOST_ITEMS = 200; // of a list, a map or a stack that are shown as text
+const MOST_TITLE = 300; // letters of an event's name above its fields
 const MOST_LINES = 1000; // of fields, frames and schemas that are listed
 const MOST_LENGTH = 2 ** 64; // of a slice, in nanoseconds (the double beside 2^64 - 1)
 const [LEAST_SUM, MOST_SUM] = [-(2n ** 63n), 2n ** 63n - 1n]; // of a counter's steps
@@ -570,6 +572,7 @@ function findTracks() {
     let track = known[sort].get(key);
     if (track === undefined) {
       track = { name: name(), sort: SORTS.indexOf(sort), key, at: tracks.length, open: new Map() };
+      if (sort === \"text\") track.order = track.name.replace(/[0-9]+/g, (digits) => digits.padStart(20, \"0\"));
       known[sort].set(key, track);
       tracks.push(track);
     }
@@ -595,7 +598,8 @@ function findTracks() {
   for (let event = 0; event < trace.count; event++) trace.trackOf[event] = found[event].at;
 }
 
-const textOrder = (a, b) => (a.name < b.name ? -1 : a.name > b.name ? 1 : 0);
+// (numbers in texts stand by their size)
+const textOrder = (a, b) => (a.order < b.order ? -1 : a.order > b.order ? 1 : 0);
 
 // Gives each slice its length in nanoseconds (NONE where an event is no slice), and begins and ends each other.
 function pairEvents() {
@@ -986,9 +990,19 @@ function compares(word, field, value) {
 function search(query) {
   chosen.query = query;
   chosen.found = findEvents(query);
-  for (const lane of trace.lanes) lane.found = chosen.found && counts(lane.events, chosen.found);
+  const found = chosen.found && foundOrEnd(chosen.found);
+  for (const lane of trace.lanes)
+    lane.found = found && counts(lane.events, lane.sort === \"slices\" ? found : chosen.found);
   timeline.density = null;
   listEvents();
+}
+
+// The same with each slice whose end is found.
+function foundOrEnd(found) {
+  const both = found.slice();
+  for (let event = 0; event < trace.count; event++)
+    if (found[event] && trace.partner[event] !== NONE) both[trace.partner[event]] = 1;
+  return both;
 }
 
 // For each place in a list how many of the events before it are found.
@@ -1375,6 +1389,7 @@ function drawSlices(pen, lane, y) {
     drawSlice(pen, lane, at, next, left, Math.max(1, right - left), y);
     at = next;
   }
+  drawOutlines(pen, lane, y);
 }
 
 // A place in a lane after this one, before which all events end before this time.
@@ -1400,16 +1415,21 @@ function drawSlice(pen, lane, at, next, left, width, y) {
     write(pen, label, left + 4, left + width - 4, y + room / 2 + 0.5);
   }
   pen.globalAlpha = 1;
-  if (next === at + 1) drawOutline(pen, event, left, y, width, room);
 }
 
-// What tells that an event is selected, or under the pointer.
-function drawOutline(pen, event, left, y, width, height) {
-  const isChosen = event === chosen.event || (trace.partner[event] !== NONE && trace.partner[event] === chosen.event);
-  if (!isChosen && event !== timeline.hover) return;
-  pen.strokeStyle = isChosen ? colours.accent : colours.muted;
-  pen.lineWidth = isChosen ? 2 : 1;
-  pen.strokeRect(left, y, Math.max(2, width), height);
+// What tells that an event of a lane is selected, or under the pointer, also where it is drawn as one with others.
+function drawOutlines(pen, lane, y) {
+  const its = drawnFor(chosen.event);
+  for (const event of new Set([timeline.hover, its])) {
+    const at = event === NONE ? NONE : placeIn(lane, event);
+    if (at === NONE || lane.end[at] < timeline.from || lane.start[at] > timeline.to) continue;
+    const isMark = lane.sort === \"marks\";
+    const left = isMark ? Math.floor(placeOf(lane.start[at])) - 4 : placeSeen(lane.start[at]);
+    const width = isMark ? 10 : Math.max(2, placeSeen(lane.end[at]) - left);
+    pen.strokeStyle = event === its ? colours.accent : colours.muted;
+    pen.lineWidth = event === its ? 2 : 1;
+    pen.strokeRect(left, y, width, lane.height - 1);
+  }
 }
 
 // Instants: a tick each, with a head where there is room for one.
@@ -1427,10 +1447,10 @@ function drawMarks(pen, lane, y) {
     pen.fillRect(x, y + 2, 2, lane.height - 5);
     if (x - last > 7 && ahead - x > 7) pen.fillRect(x - 2, y + 2, 6, 5);
     pen.globalAlpha = 1;
-    if (next === at + 1) drawOutline(pen, events[at], x - 4, y, 10, lane.height - 1);
     last = x;
     at = next;
   }
+  drawOutlines(pen, lane, y);
 }
 
 // The line of a counter: it keeps a value up to the next one. Where many lie in a column it goes from the least of
@@ -1833,7 +1853,7 @@ function columnsOf(only) {
   const wide = table.box.clientWidth < 760 ? 0.84 : 1;
   const columns = [
     { id: \"time\", title: \"Time\", width: 150 * wide, isNumber: true, text: timeCell, key: (it) => trace.time[it] },
-    { id: \"event\", title: \"Event\", width: 190 * wide, text: labelOf, ranks: labelOf },
+    { id: \"event\", title: \"Event\", width: 180 * wide, text: labelOf, ranks: labelOf },
     { id: \"track\", title: \"Track\", width: 130 * wide, text: trackName, key: (it) => trace.trackOf[it] },
     { id: \"length\", title: \"Length\", width: 116 * wide, isNumber: true, text: lengthCell, key: lengthOf },
   ];
@@ -2310,8 +2330,9 @@ function showDetails() {
   }
   const schema = schemaOf(event);
   const label = labelOf(event);
-  const parts = [make(\"h2\", { dir: \"auto\" }, shown(label))];
-  if (label !== schema.name) parts.push(make(\"p\", { className: \"muted\", dir: \"auto\" }, shown(schema.name)));
+  const title = (text) => shown(text, MOST_TITLE);
+  const parts = [make(\"h2\", { dir: \"auto\" }, title(label))];
+  if (label !== schema.name) parts.push(make(\"p\", { className: \"muted\", dir: \"auto\" }, title(schema.name)));
   parts.push(...warnings(event), placeTable(event), make(\"h3\", {}, \"Fields\"), fieldTable(event));
   const { partner } = trace;
   if (partner[event] !== NONE) {
