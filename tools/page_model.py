@@ -177,11 +177,11 @@ class Model:
 
     def words(self, query):
         names = {"event", "track", "time", "length"}
-        names |= {field["name"] for schema in self.data["schemas"] for field in schema["fields"]}
+        names |= {field["name"].lower() for schema in self.data["schemas"] for field in schema["fields"]}
         for token in re.findall(r'(?:[^\s"]|"(?:[^"]|"")*"?)+', query):
             parts = re.fullmatch(r'([^"=<>!]+|"(?:[^"]|"")+")(!=|<=|>=|=|<|>)(.*)', token, re.S)
-            if parts and unquoted(parts[1]) in names:
-                yield unquoted(parts[1]), parts[2], unquoted(parts[3]).lower()
+            if parts and unquoted(parts[1]).lower() in names:
+                yield unquoted(parts[1]).lower(), parts[2], unquoted(parts[3]).lower()
             elif unquoted(token):
                 yield None, token.startswith('"'), unquoted(token).lower()
 
@@ -196,7 +196,7 @@ class Model:
             own = [event.schema["name"], event.group or ""]
             return any(text in it.lower() for it in own) or any(
                 self.holds(text, number, kind, value) for _, kind, _, value in event.fields())
-        fields = [(kind, field["unit"], value) for its, kind, field, value in event.fields() if its == name]
+        fields = [(kind, field["unit"], value) for its, kind, field, value in event.fields() if its.lower() == name]
         own = {"event": ("Text", None, event.schema["name"]), "track": ("Text", None, event.track_name(self.tracks)),
                "time": ("I64", "ns", event.time), "length": ("I64", "ns", event.length)}
         return any(self.compares(how, text, *it) for it in fields or [own.get(name, ("Bool", None, None))])

@@ -476,10 +476,10 @@ function makeWord(token) {
   const text = unquoted(token);
   const parts = /^([^"=<>!]+|"(?:[^"]|"")+")(!=|<=|>=|=|<|>)(.*)$/s.exec(token);
   if (parts) {
-    const name = unquoted(parts[1]);
+    const name = unquoted(parts[1]).toLowerCase();
     const value = unquoted(parts[3]);
     const known = ["event", "track", "time", "length"].includes(name);
-    if (known || trace.schemas.some((schema) => schema.fields.some((field) => field.name === name)))
+    if (known || trace.schemas.some((schema) => schema.fields.some((field) => field.name.toLowerCase() === name)))
       return { name, operator: parts[2], text: value.toLowerCase(), number: numberWord(value) };
   }
   return { name: null, text: text.toLowerCase(), number: token.startsWith('"') ? null : numberWord(text) };
@@ -534,7 +534,7 @@ const sameNumber = (value, word) => (typeof value === "string" ? value === word.
 
 // Whether a word as NAME=VALUE finds an event of this schema.
 function fieldTest(word, schema) {
-  const fields = schema.fields.filter((field) => field.name === word.name);
+  const fields = schema.fields.filter((field) => field.name.toLowerCase() === word.name);
   const nanoseconds = { kind: "I64", unit: "ns" };
   if (fields.length) return (event) => fields.some((field) => compares(word, field, valueOf(event, field)));
   switch (word.name) {
