@@ -7,7 +7,7 @@ pub const HEAD: &str = "<!doctype html>
 <head>
 <meta charset=\"utf-8\">
 <meta http-equiv=\"Content-Security-Policy\" content=\"default-src 'none';
-  script-src 'sha256-ZaVezMmyrFG3zcO2fEwNKl9pR9QdURgYuljerhli8Kg=';
+  script-src 'sha256-i6odfPGc98kZZtsBHG0+BqH7aw0s70e1E7wIGz1id9A=';
   style-src 'sha256-7Ce6TegYy3iLcNdVChw1ebDIc3OwkziIPAnwY40L0Lc=';
   img-src data:;
   base-uri 'none';
@@ -1261,14 +1261,15 @@ function reveal(event) {
   else if (lane.y + lane.height > box.scrollTop + room) box.scrollTop = lane.y + lane.height + 8 - room;
 }
 
-// Fits the selected event, or the range, or all.
+// Fits the selected event, or the slice that it ends, or the range, or all.
 function fit() {
-  const { event, range } = chosen;
+  const { range } = chosen;
+  const event = drawnFor(chosen.event);
   if (event !== NONE) {
     const length = Math.max(0, trace.length[event]);
     const pad = length * 0.25 || (timeline.to - timeline.from) * 0.05;
     look(trace.time[event] - pad, trace.time[event] + length + pad);
-    reveal(event);
+    reveal(chosen.event);
   } else if (range) look(range.from, range.to);
   else lookAtAll();
 }
@@ -2442,7 +2443,7 @@ function dropSomething() {
 
 // A range of the time of the selected slice, or of what is seen.
 function rangeHere() {
-  const { event } = chosen;
+  const event = drawnFor(chosen.event);
   if (event !== NONE && trace.length[event] > 0) setRange({ from: trace.time[event], to: endTime(event) });
   else setRange({ from: timeline.from, to: timeline.to });
 }
