@@ -1116,8 +1116,10 @@ function drawNames(pen) {
 // A number of a counter, in the unit of its field.
 function numberText(field, number) {
   const isShort = field.unit === "bytes" || (field.unit ?? "") in TIMES;
-  return isShort ? valueText({ ...field, kind: "F64" }, number)
-    : decimal(number, Number.isInteger(number) ? 0 : 3) + (field.unit ? ` ${field.unit}` : "");
+  if (isShort) return valueText({ ...field, kind: "F64" }, number);
+  const isTiny = number !== 0 && Math.abs(number) < 0.01;
+  const digits = isTiny ? String(Number(number.toPrecision(3))) : decimal(number, Number.isInteger(number) ? 0 : 3);
+  return digits + (field.unit ? ` ${field.unit}` : "");
 }
 
 function drawRange(pen) {

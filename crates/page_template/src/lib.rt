@@ -7,7 +7,7 @@ pub const HEAD: &str = "<!doctype html>
 <head>
 <meta charset=\"utf-8\">
 <meta http-equiv=\"Content-Security-Policy\" content=\"default-src 'none';
-  script-src 'sha256-i6odfPGc98kZZtsBHG0+BqH7aw0s70e1E7wIGz1id9A=';
+  script-src 'sha256-G8y7J7Joy6zIu0u+9oS3BVi7k1OPd/DsOIQG8w7hbyk=';
   style-src 'sha256-7Ce6TegYy3iLcNdVChw1ebDIc3OwkziIPAnwY40L0Lc=';
   img-src data:;
   base-uri 'none';
@@ -1539,8 +1539,10 @@ function drawNames(pen) {
 // A number of a counter, in the unit of its field.
 function numberText(field, number) {
   const isShort = field.unit === \"bytes\" || (field.unit ?? \"\") in TIMES;
-  return isShort ? valueText({ ...field, kind: \"F64\" }, number)
-    : decimal(number, Number.isInteger(number) ? 0 : 3) + (field.unit ? ` ${field.unit}` : \"\");
+  if (isShort) return valueText({ ...field, kind: \"F64\" }, number);
+  const isTiny = number !== 0 && Math.abs(number) < 0.01;
+  const digits = isTiny ? String(Number(number.toPrecision(3))) : decimal(number, Number.isInteger(number) ? 0 : 3);
+  return digits + (field.unit ? ` ${field.unit}` : \"\");
 }
 
 function drawRange(pen) {
