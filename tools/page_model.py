@@ -60,6 +60,9 @@ class Event:
         return self.fields()[self.roles[name]] if self.roles[name] is not None else (None, None, None, None)
 
     def shape(self):
+        _, kind, _, value = self.role("tid")
+        if kind == "String" and isinstance(value, dict):
+            return "instant"
         order = ("begin", "begin"), ("end", "end"), ("duration", "slice")
         return next((shape for role, shape in order if self.roles[role] is not None), "instant")
 
@@ -68,7 +71,20 @@ class Event:
 
     def label(self):
         _, kind, _, value = self.role("name")
+        if kind in ("I64", "Varint") and isinstance(value, (int, str)):
+            return str(value)
         return self.data["strings"][value] if kind == "String" and isinstance(value, int) else self.base_name()
+
+    def counted(self):
+        """The names of its counters, whether each is a gauge, and the number that each shows."""
+        for name, kind, field, value in self.fields():
+            if field["counter"] is None or not is_number(kind) or value is None or isinstance(value, dict):
+                continue
+            if field["counter"] != "gauge" and kind != "F64":
+                step = min(int(value), 2**63 - 1)
+                yield name, False, max(0, step) if field["counter"] == "counter" else step
+            elif field["counter"] == "gauge" and float(value) - float(value) == 0:
+                yield name, True, float(value)
 
     def track(self):
         """What its track is known by: its sort, and what it has for a key."""
@@ -111,7 +127,7 @@ class Model:
                 _, kind, field, value = event.role("duration")
                 number = float(value) if is_number(kind) and isinstance(value, (int, float, str)) else 0
                 length = number * (SCALES[field["unit"]] if field["unit"] in TIMES else 1)
-                event.length = length if 0 < length < float("inf") else 0
+                event.length = min(length, 2**64) if 0 < length < float("inf") else 0
             elif event.shape() == "begin":
                 opened.setdefault(key, []).append(event)
             elif event.shape() == "end" and opened.get(key):
@@ -124,46 +140,48 @@ class Model:
 
     def lanes(self):
         """The sort, the track and the size of each row of the timeline that has no counter."""
-        order = {key: at for at, key in enumerate(self.tracks)}
-        found = []
-        for key in sorted(self.tracks, key=lambda it: (it[0], it[1] if it[0] < 2 else order[it])):
+        order, found = {key: at for at, key in enumerate(self.tracks)}, []
+
+        def place(key):
+            # (numbers in texts stand by their size)
+            by_size = key[0] == 1 and re.sub("[0-9]+", lambda it: it[0].rjust(20, "0"), key[1])
+            return key[0], order[key] if key[0] == 2 else by_size or key[1]
+
+        for key in sorted(self.tracks, key=place):
             events = [event for event in self.events if event.track() == key]
             marks = [event for event in events if event.length is None and event.partner is None and not (
-                event.shape() == "instant" and any(field["counter"] for field in event.schema["fields"]))]
+                event.shape() == "instant" and any(event.counted()))]
             rows = []
             for event in sorted((event for event in events if event.length is not None),
                                 key=lambda it: (it.place, -it.length, it.number)):
-                at = next((at for at, row in enumerate(rows) if row[-1].end() <= event.place), len(rows))
+                at = next((at for at, row in enumerate(rows) if row[-1].end() <= event.place or at == 63), len(rows))
                 rows[at:at + 1] = [rows[at] + [event]] if at < len(rows) else [[event]]
             name = self.tracks[key]
             found += [["marks", name, len(marks)]] * bool(marks) + [["slices", name, len(row)] for row in rows]
         return found
 
     def counters(self):
-        """The schema, field and track of each counter, how many points it has, and its last value."""
-        found = {}
-        for schema in self.data["schemas"]:
-            for at, field in enumerate(schema["fields"]):
-                if field["counter"] is None or not is_number(kind_of(field["type"])):
-                    continue
-                for event in (event for event in self.events if event.schema is schema):
-                    value = float("nan") if event.values[at] is None else float(event.values[at])
-                    if value - value != 0:
-                        continue
-                    key = schema["name"], field["name"], self.tracks[event.track()]
-                    points, last = found.get(key, (0, 0))
-                    found[key] = points + 1, value if field["counter"] == "gauge" else last + value
-        return sorted([*key, *it] for key, it in found.items())
+        """The schema, field and track of each counter, the events that it shows, and its value at each."""
+        found, sums = {}, {}
+        for event in self.events:
+            for name, is_gauge, number in event.counted():
+                key = event.schema["name"], name, self.tracks[event.track()]
+                if not is_gauge:
+                    number = sums[key] = max(-2**63, min(2**63 - 1, sums.get(key, 0) + number))
+                found.setdefault(key, {})[event] = float(number)
+        order = {key: sorted(its, key=lambda it: (it.place, it.number)) for key, its in found.items()}
+        return sorted([*key, [it.number for it in order[key]], [its[it] for it in order[key]]]
+                      for key, its in found.items())
 
     # (search)
 
     def words(self, query):
         names = {"event", "track", "time", "length"}
-        names |= {field["name"] for schema in self.data["schemas"] for field in schema["fields"]}
+        names |= {field["name"].lower() for schema in self.data["schemas"] for field in schema["fields"]}
         for token in re.findall(r'(?:[^\s"]|"(?:[^"]|"")*"?)+', query):
             parts = re.fullmatch(r'([^"=<>!]+|"(?:[^"]|"")+")(!=|<=|>=|=|<|>)(.*)', token, re.S)
-            if parts and unquoted(parts[1]) in names:
-                yield unquoted(parts[1]), parts[2], unquoted(parts[3]).lower()
+            if parts and unquoted(parts[1]).lower() in names:
+                yield unquoted(parts[1]).lower(), parts[2], unquoted(parts[3]).lower()
             elif unquoted(token):
                 yield None, token.startswith('"'), unquoted(token).lower()
 
@@ -178,7 +196,7 @@ class Model:
             own = [event.schema["name"], event.group or ""]
             return any(text in it.lower() for it in own) or any(
                 self.holds(text, number, kind, value) for _, kind, _, value in event.fields())
-        fields = [(kind, field["unit"], value) for its, kind, field, value in event.fields() if its == name]
+        fields = [(kind, field["unit"], value) for its, kind, field, value in event.fields() if its.lower() == name]
         own = {"event": ("Text", None, event.schema["name"]), "track": ("Text", None, event.track_name(self.tracks)),
                "time": ("I64", "ns", event.time), "length": ("I64", "ns", event.length)}
         return any(self.compares(how, text, *it) for it in fields or [own.get(name, ("Bool", None, None))])
@@ -254,6 +272,6 @@ class Model:
         return str(value)
 
 
-def shown(text):
+def shown(text, most=4000):
     escape = r"[\x00-\x1f\x7f-\x9f\u2028\u2029\u202a-\u202e\u2066-\u2069\ufeff]"
-    return re.sub(escape, lambda it: f"\\u{ord(it[0]):04x}", text if len(text) <= 4000 else text[:3999] + "…")
+    return re.sub(escape, lambda it: f"\\u{ord(it[0]):04x}", text if len(text) <= most else text[:most - 1] + "…")

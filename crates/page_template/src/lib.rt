@@ -7,8 +7,8 @@ pub const HEAD: &str = "<!doctype html>
 <head>
 <meta charset=\"utf-8\">
 <meta http-equiv=\"Content-Security-Policy\" content=\"default-src 'none';
-  script-src 'sha256-CMpPZG3uGtnqIZil9gE4jwJTWDsWk0tXe3hb1U9LYuc=';
-  style-src 'sha256-Lkq76HwGo73Gd5Auq4HrGc9Syuu621h8PKxrm9w0L/Q=';
+  script-src 'sha256-G8y7J7Joy6zIu0u+9oS3BVi7k1OPd/DsOIQG8w7hbyk=';
+  style-src 'sha256-7Ce6TegYy3iLcNdVChw1ebDIc3OwkziIPAnwY40L0Lc=';
   img-src data:;
   base-uri 'none';
   form-action 'none';
@@ -146,6 +146,8 @@ header {
   color: var(--warning);
   background: var(--warning-ground);
   border-bottom: 1px solid var(--line);
+  overflow: auto;
+  max-height: 25%;
   overflow-wrap: anywhere;
 }
 
@@ -181,13 +183,13 @@ main {
 /* A canvas as large as the part that is seen, over a sheet as high as what it draws of */
 
 .drawn { position: relative; min-height: 0; overflow: hidden auto; }
-.drawn canvas { position: sticky; top: 0; display: block; touch-action: none; }
-#tracks { cursor: default; }
+.drawn canvas { position: sticky; top: 0; display: block; }
+#tracks { cursor: default; touch-action: none; }
 
 #tip {
   position: fixed;
   z-index: 2;
-  max-width: 360px;
+  max-width: min(360px, calc(100vw - 8px));
   padding: 6px 9px;
   background: var(--ground);
   border: 1px solid var(--line);
@@ -210,6 +212,7 @@ nav {
   border-bottom: 1px solid var(--line);
 }
 
+[role=\"tablist\"] { flex: none; }
 nav p { overflow: hidden; color: var(--muted); text-overflow: ellipsis; white-space: nowrap; }
 
 [role=\"tab\"] {
@@ -262,11 +265,12 @@ td .key ~ .key { margin-left: 14px; }
 #summary td button { height: 22px; padding: 0; color: var(--accent); background: none; border: none; }
 #summary td button:hover { text-decoration: underline; }
 
-.empty { padding: 24px 12px; color: var(--muted); text-align: center; }
+.empty { padding: 24px 12px; color: var(--muted); }
 
 /* The details of the selected event */
 
-#details h2 { margin-bottom: 2px; overflow-wrap: anywhere; }
+#details h2, #details p { overflow-wrap: anywhere; }
+#details h2 { margin-bottom: 2px; }
 #details h3 { margin: 14px 0 4px; color: var(--muted); font-size: 12px; font-weight: 400; }
 #details table { width: 100%; margin-top: 6px; table-layout: fixed; }
 #details td { padding: 3px 0; vertical-align: top; white-space: pre-wrap; overflow-wrap: anywhere; }
@@ -292,11 +296,11 @@ dialog {
 
 dialog::backdrop { background: rgb(0 0 0 / 35%); }
 dialog h2 { margin-bottom: 8px; }
-dialog td { padding: 3px 16px 3px 0; }
+dialog td { padding: 3px 16px 3px 0; white-space: normal; }
 dialog p { margin: 6px 0; max-width: 70ch; }
 dialog caption { padding-bottom: 4px; color: var(--muted); text-align: left; }
-dialog .columns { display: grid; grid-template-columns: repeat(auto-fit, minmax(330px, 1fr)); gap: 8px 24px; }
-dialog .columns { margin-bottom: 16px; }
+dialog .columns { display: grid; gap: 8px 24px; margin-bottom: 16px; }
+dialog .columns { grid-template-columns: repeat(auto-fit, minmax(min(330px, 100%), 1fr)); }
 dialog table { margin-bottom: 8px; }
 dialog form { margin-top: 12px; text-align: right; }
 </style>
@@ -317,7 +321,7 @@ dialog form { margin-top: 12px; text-align: right; }
   <button type=\"button\" id=\"theme\" title=\"T\" aria-label=\"Light or dark\">&#x25d0;</button>
   <button type=\"button\" id=\"help\" title=\"?\" aria-label=\"Keys and search\">?</button>
 </header>
-<p id=\"notice\" role=\"alert\" hidden></p>
+<div id=\"notice\" role=\"alert\" hidden></div>
 <main>
   <section id=\"timeline\" class=\"drawn\" aria-label=\"Timeline\">
     <div class=\"sheet\">
@@ -428,7 +432,10 @@ const TIMES = { __proto__: null, ns: 1, us: 1e3, ms: 1e6, s: 1e9 };
 const SIZES = { __proto__: null, B: 1, KiB: 1024, MiB: 1024 ** 2, GiB: 1024 ** 3 };
 const MOST_ROWS = 64; // of slices on a track
 const MOST_ITEMS = 200; // of a list, a map or a stack that are shown as text
+const MOST_TITLE = 300; // letters of an event's name above its fields
 const MOST_LINES = 1000; // of fields, frames and schemas that are listed
+const MOST_LENGTH = 2 ** 64; // of a slice, in nanoseconds (the double beside 2^64 - 1)
+const [LEAST_SUM, MOST_SUM] = [-(2n ** 63n), 2n ** 63n - 1n]; // of a counter's steps
 const ELLIPSIS = \"\\u2026\";
 
 let trace = null; // what the data says, and what is worked out of it once (readTrace)
@@ -472,7 +479,8 @@ function makeSchema(schema, index) {
     fields,
     shape: begin !== null ? BEGIN : end !== null ? END : duration !== null ? SLICE : INSTANT,
     group: begin ?? end,
-    counters: fields.filter((it) => it.counter !== null && isNumber(it.kind)),
+    // (steps are whole numbers)
+    counters: fields.filter((it) => (it.counter === \"gauge\" ? isNumber(it.kind) : it.counter && isWhole(it.kind))),
     stacks: fields.filter((it) => it.kind === \"StackFrames\"),
     count: 0,
     listed: 0,
@@ -488,11 +496,16 @@ function readTrace() {
   if (data.format !== 1) throw new Error(`its data is of format ${data.format}, and this page reads format 1`);
   const { schema, time, values } = data.events;
   const count = schema.length;
+  // Where two schemas are alike in all that the data tells of them, annotations differ of which it tells nothing, as
+  // clocks are. So each may be of a clock of its own.
+  const told = data.schemas.map(({ name, roles, fields }) => JSON.stringify([name, roles, fields]));
+  const hasTwins = new Set(told).size < told.length;
   trace = {
     name: data.name,
     end: data.end,
     start: BigInt(data.start),
-    zero: data.zero === null ? null : BigInt(data.zero),
+    zero: data.zero === null || hasTwins ? null : BigInt(data.zero),
+    hasNoDates: data.zero !== null && hasTwins,
     schemas: data.schemas.map(makeSchema),
     strings: data.strings,
     stacks: data.stacks,
@@ -529,12 +542,17 @@ function readEvent(event) {
 const schemaOf = (event) => trace.schemas[trace.schemaOf[event]];
 const valueOf = (event, field) => trace.values[trace.valuesAt[event] + field.at];
 
-// The name of an event: the text of its field of that role, else its group, else its schema's name.
+// What an event is: by its schema, but an instant where its track is an id under which the trace has nothing.
+const shapeOf = (event) => (trace.isLost[event] ? INSTANT : schemaOf(event).shape);
+
+// The name of an event: the text or the whole number of its field of that role, else its group, else its schema's name.
 function labelOf(event) {
   const schema = schemaOf(event);
   const field = schema.fields[schema.roles.name];
-  const value = field?.kind === \"String\" ? valueOf(event, field) : null;
-  return typeof value === \"number\" ? trace.strings[value] : schema.group ?? schema.name;
+  const value = field ? valueOf(event, field) : null;
+  if (value === null || typeof value === \"object\") return schema.group ?? schema.name;
+  if (isWhole(field.kind)) return String(value);
+  return field.kind === \"String\" ? trace.strings[value] : schema.group ?? schema.name;
 }
 
 // The number that a value is, as near as a double comes; NaN where it is none.
@@ -554,16 +572,19 @@ function findTracks() {
     let track = known[sort].get(key);
     if (track === undefined) {
       track = { name: name(), sort: SORTS.indexOf(sort), key, at: tracks.length, open: new Map() };
+      if (sort === \"text\") track.order = track.name.replace(/[0-9]+/g, (digits) => digits.padStart(20, \"0\"));
       known[sort].set(key, track);
       tracks.push(track);
     }
     return track;
   };
   const found = [];
+  trace.isLost = new Uint8Array(trace.count);
   for (let event = 0; event < trace.count; event++) {
     const schema = schemaOf(event);
     const field = schema.fields[schema.roles.tid];
     const value = field ? valueOf(event, field) : null;
+    if (field?.kind === \"String\" && value !== null && typeof value === \"object\") trace.isLost[event] = 1;
     const isId = value !== null && typeof value !== \"object\";
     if (isId && isWhole(field.kind)) found.push(find(\"number\", value, () => `${field.name} ${value}`));
     else if (isId && field.kind === \"String\") found.push(find(\"text\", value, () => trace.strings[value]));
@@ -577,7 +598,8 @@ function findTracks() {
   for (let event = 0; event < trace.count; event++) trace.trackOf[event] = found[event].at;
 }
 
-const textOrder = (a, b) => (a.name < b.name ? -1 : a.name > b.name ? 1 : 0);
+// (numbers in texts stand by their size)
+const textOrder = (a, b) => (a.order < b.order ? -1 : a.order > b.order ? 1 : 0);
 
 // Gives each slice its length in nanoseconds (NONE where an event is no slice), and begins and ends each other.
 function pairEvents() {
@@ -585,16 +607,17 @@ function pairEvents() {
   trace.partner = new Int32Array(trace.count).fill(NONE);
   for (let event = 0; event < trace.count; event++) {
     const schema = schemaOf(event);
+    const shape = shapeOf(event);
     const time = trace.time[event];
-    if (schema.shape === SLICE) {
+    if (shape === SLICE) {
       const field = schema.fields[schema.roles.duration];
       const length = numberOf(valueOf(event, field)) * (TIMES[field.unit] ?? 1);
-      trace.length[event] = isNumber(field.kind) && length > 0 && length < Infinity ? length : 0;
-    } else if (schema.shape === BEGIN) {
+      trace.length[event] = isNumber(field.kind) && length > 0 && length < Infinity ? Math.min(length, MOST_LENGTH) : 0;
+    } else if (shape === BEGIN) {
       const open = trace.tracks[trace.trackOf[event]].open;
       if (!open.has(schema.group)) open.set(schema.group, []);
       open.get(schema.group).push(event);
-    } else if (schema.shape === END) {
+    } else if (shape === END) {
       const begin = trace.tracks[trace.trackOf[event]].open.get(schema.group)?.pop() ?? NONE;
       if (begin === NONE) continue;
       trace.partner[event] = begin;
@@ -607,18 +630,22 @@ function pairEvents() {
   for (const begin of left) trace.length[begin] = Math.max(0, trace.most - trace.time[begin]);
 }
 
-const isOpen = (event) => schemaOf(event).shape === BEGIN && trace.partner[event] === NONE;
+const isOpen = (event) => shapeOf(event) === BEGIN && trace.partner[event] === NONE;
 const endTime = (event) => trace.time[event] + Math.max(0, trace.length[event]);
 
 // A lane is a row of the timeline: the instants of a track, a row of its slices, or the line of a counter. Its events
-// stand by their begin.
+// stand by their begin. `reach` is how far those up to a place go: where they lie over each other, an earlier one may
+// end later.
 function makeLane(sort, track, height, events, values) {
   const lane = { sort, track, height, y: 0, found: null, events: new Uint32Array(events) };
   lane.start = new Float64Array(events.length);
   lane.end = sort === \"slices\" ? new Float64Array(events.length) : lane.start;
+  lane.reach = sort === \"slices\" ? new Float64Array(events.length) : lane.start;
   for (let at = 0; at < events.length; at++) {
     lane.start[at] = trace.time[events[at]];
-    if (sort === \"slices\") lane.end[at] = endTime(events[at]);
+    if (sort !== \"slices\") continue;
+    lane.end[at] = endTime(events[at]);
+    lane.reach[at] = at > 0 ? Math.max(lane.reach[at - 1], lane.end[at]) : lane.end[at];
   }
   if (values) lane.values = new Float64Array(values);
   return lane;
@@ -627,10 +654,9 @@ function makeLane(sort, track, height, events, values) {
 function makeLanes() {
   const parts = trace.tracks.map(() => ({ marks: [], slices: [] }));
   for (let event = 0; event < trace.count; event++) {
-    const { shape, counters } = schemaOf(event);
     const part = parts[trace.trackOf[event]];
     if (trace.length[event] >= 0) part.slices.push(event);
-    else if (shape === END ? trace.partner[event] === NONE : counters.length === 0) part.marks.push(event);
+    else if (shapeOf(event) === END ? trace.partner[event] === NONE : !isCounted(event)) part.marks.push(event);
   }
   trace.lanes = [];
   trace.tracks.forEach((track, at) => {
@@ -638,8 +664,7 @@ function makeLanes() {
     if (marks.length) trace.lanes.push(makeLane(\"marks\", track, 16, inOrder(marks)));
     for (const row of makeRows(inOrder(slices))) trace.lanes.push(makeLane(\"slices\", track, 19, row));
   });
-  for (const schema of trace.schemas)
-    if (schema.counters.length) for (const lane of makeCounters(schema)) trace.lanes.push(lane);
+  for (const lane of makeCounters()) trace.lanes.push(lane);
   trace.laneOf = new Int32Array(trace.count).fill(NONE);
   let y = 0;
   trace.lanes.forEach((lane, at) => {
@@ -651,12 +676,15 @@ function makeLanes() {
   });
   trace.height = y;
   for (let event = 0; event < trace.count; event++) {
-    const begin = schemaOf(event).shape === END ? trace.partner[event] : NONE;
+    const begin = shapeOf(event) === END ? trace.partner[event] : NONE;
     if (begin !== NONE) trace.laneOf[event] = trace.laneOf[begin];
   }
 }
 
-// Which of two events comes first in a lane: the one that begins first, and of those that begin together the longest.
+// Which of two events comes first: the one that begins first, and of those that begin together the first of the trace.
+const timeOrder = (a, b) => trace.time[a] - trace.time[b] || a - b;
+
+// Which of two events comes first in a lane: of those that begin together the longest.
 function laneOrder(a, b) {
   return trace.time[a] - trace.time[b] || trace.length[b] - trace.length[a] || a - b;
 }
@@ -681,27 +709,58 @@ function makeRows(slices) {
   return rows;
 }
 
-// The lines of the counters of a schema: one for each of its counter fields and each track of its events.
-function makeCounters(schema) {
+// The number that a counter's value shows: that of a gauge, and a step of any other; NaN where it shows none.
+function shownBy(field, value) {
+  if (value === null || typeof value === \"object\") return NaN;
+  const number = Number(value);
+  if (field.counter === \"gauge\") return Number.isFinite(number) ? number : NaN;
+  return field.counter === \"counter\" && number < 0 ? 0 : number;
+}
+
+// Whether a counter shows an event, which then needs no mark of its own.
+const isCounted = (event) =>
+  schemaOf(event).counters.some((field) => !Number.isNaN(shownBy(field, valueOf(event, field))));
+
+// A sum after a step, which is a value of a trace. A sum is a number where that is exact, else a BigInt, and stays
+// between the least and the greatest number of 64 bits.
+function stepped(sum, value, step) {
+  const quick = typeof sum === \"number\" && typeof value === \"number\" ? sum + step : NaN;
+  if (Number.isSafeInteger(quick)) return quick;
+  const exact = BigInt(sum) + atMost(step === 0 ? 0n : BigInt(value));
+  const kept = exact < LEAST_SUM ? LEAST_SUM : atMost(exact);
+  return Number.isSafeInteger(Number(kept)) ? Number(kept) : kept;
+}
+
+const atMost = (whole) => (whole > MOST_SUM ? MOST_SUM : whole);
+
+// The lines of all counters: one for each name of a schema, name of a field, and track of their events.
+function makeCounters() {
+  const names = new Map();
+  const numberOfName = (name) => names.get(name) ?? names.set(name, names.size).get(name);
+  const fields = trace.schemas.map((schema) => schema.counters.map((field) =>
+    ({ field, schema, number: numberOfName(JSON.stringify([schema.name, field.name])) })));
   const lines = new Map();
   for (let event = 0; event < trace.count; event++) {
-    if (trace.schemaOf[event] !== schema.index) continue;
-    for (const field of schema.counters) {
-      const value = numberOf(valueOf(event, field) ?? NaN);
-      if (!Number.isFinite(value)) continue;
-      const key = field.at * trace.tracks.length + trace.trackOf[event];
+    for (const { field, schema, number } of fields[trace.schemaOf[event]]) {
+      const value = valueOf(event, field);
+      const shown = shownBy(field, value);
+      if (Number.isNaN(shown)) continue;
+      const track = trace.trackOf[event];
+      const key = number * trace.tracks.length + track;
       let line = lines.get(key);
-      if (!line) lines.set(key, (line = { field, track: trace.tracks[trace.trackOf[event]], events: [], values: [] }));
-      line.events.push(event);
-      line.values.push(field.counter === \"gauge\" ? value : value + (line.values.at(-1) ?? 0));
+      if (!line) lines.set(key, (line = { key, field, schema, track, events: [], values: [], sum: 0 }));
+      if (field.counter !== \"gauge\") line.sum = stepped(line.sum, value, shown);
+      // (of two fields with one name the last counts)
+      const at = line.events.at(-1) === event ? line.events.length - 1 : line.events.length;
+      line.events[at] = event;
+      line.values[at] = field.counter === \"gauge\" ? shown : Number(line.sum);
     }
   }
-  return [...lines.values()].sort((a, b) => a.field.at - b.field.at || a.track.at - b.track.at).map((line) => {
-    const { field, track } = line;
-    const byEvent = new Map(trace.ordered ? [] : line.events.map((event, at) => [event, line.values[at]]));
-    const events = trace.ordered ? line.events : line.events.sort(laneOrder);
-    const values = trace.ordered ? line.values : events.map((event) => byEvent.get(event));
-    const lane = makeLane(\"counter\", track, 42, events, values);
+  return [...lines.values()].sort((a, b) => a.key - b.key).map(({ field, schema, track, events, values }) => {
+    const byEvent = new Map(trace.ordered ? [] : events.map((event, at) => [event, values[at]]));
+    const ordered = trace.ordered ? events : events.sort(timeOrder);
+    const lane = makeLane(\"counter\", trace.tracks[track], 42, ordered,
+      trace.ordered ? values : ordered.map((event) => byEvent.get(event)));
     const least = lane.values.reduce((a, b) => Math.min(a, b), 0);
     const most = lane.values.reduce((a, b) => Math.max(a, b), 0);
     return Object.assign(lane, { field, schema, least, most: most === least ? 1 : most });
@@ -806,8 +865,8 @@ function shown(text, most = 4000) {
     `\\\\u${it.charCodeAt(0).toString(16).padStart(4, \"0\")}`);
 }
 
-// What stands between two other texts, however it is written.
-const isolated = (text, most) => make(\"bdi\", {}, shown(text, most));
+// What stands between two other texts, however it is written. A number goes from left to right, whatever its unit.
+const isolated = (text, most, isNumber = false) => make(\"bdi\", isNumber ? { dir: \"ltr\" } : {}, shown(text, most));
 
 function counted(count, one, many) {
   return `${grouped(count)} ${count === 1 ? one : many}`;
@@ -840,10 +899,10 @@ function makeWord(token) {
   const text = unquoted(token);
   const parts = /^([^\"=<>!]+|\"(?:[^\"]|\"\")+\")(!=|<=|>=|=|<|>)(.*)$/s.exec(token);
   if (parts) {
-    const name = unquoted(parts[1]);
+    const name = unquoted(parts[1]).toLowerCase();
     const value = unquoted(parts[3]);
     const known = [\"event\", \"track\", \"time\", \"length\"].includes(name);
-    if (known || trace.schemas.some((schema) => schema.fields.some((field) => field.name === name)))
+    if (known || trace.schemas.some((schema) => schema.fields.some((field) => field.name.toLowerCase() === name)))
       return { name, operator: parts[2], text: value.toLowerCase(), number: numberWord(value) };
   }
   return { name: null, text: text.toLowerCase(), number: token.startsWith('\"') ? null : numberWord(text) };
@@ -898,7 +957,7 @@ const sameNumber = (value, word) => (typeof value === \"string\" ? value === wor
 
 // Whether a word as NAME=VALUE finds an event of this schema.
 function fieldTest(word, schema) {
-  const fields = schema.fields.filter((field) => field.name === word.name);
+  const fields = schema.fields.filter((field) => field.name.toLowerCase() === word.name);
   const nanoseconds = { kind: \"I64\", unit: \"ns\" };
   if (fields.length) return (event) => fields.some((field) => compares(word, field, valueOf(event, field)));
   switch (word.name) {
@@ -931,9 +990,19 @@ function compares(word, field, value) {
 function search(query) {
   chosen.query = query;
   chosen.found = findEvents(query);
-  for (const lane of trace.lanes) lane.found = chosen.found && counts(lane.events, chosen.found);
+  const found = chosen.found && foundOrEnd(chosen.found);
+  for (const lane of trace.lanes)
+    lane.found = found && counts(lane.events, lane.sort === \"slices\" ? found : chosen.found);
   timeline.density = null;
   listEvents();
+}
+
+// The same with each slice whose end is found.
+function foundOrEnd(found) {
+  const both = found.slice();
+  for (let event = 0; event < trace.count; event++)
+    if (found[event] && trace.partner[event] !== NONE) both[trace.partner[event]] = 1;
+  return both;
 }
 
 // For each place in a list how many of the events before it are found.
@@ -957,7 +1026,7 @@ function listEvents() {
     trace.schemas[trace.schemaOf[event]].listed++;
   }
   chosen.listed = left.slice(0, count);
-  if (!trace.ordered) chosen.listed.sort((a, b) => trace.time[a] - trace.time[b] || a - b);
+  if (!trace.ordered) chosen.listed.sort(timeOrder);
   table.stale = flame.stale = summary.stale = true;
   showChosen();
   drawSoon();
@@ -1126,6 +1195,7 @@ const timeline = {
   to: 1,
   gutter: 160, // the width of the names
   width: 0,
+  stride: 1, // between the times of the ruler
   hover: NONE,
   lane: NONE, // the index of the lane that was clicked or gone to
   drag: null,
@@ -1155,7 +1225,8 @@ function look(from, to) {
 }
 
 function wholeSpan() {
-  const pad = (trace.most - trace.least) * 0.01 || 500;
+  const long = trace.most - trace.least;
+  const pad = long ? Math.max(long * 0.01, (LEAST_SPAN - long) / 2) : 500;
   return { from: trace.least - pad, to: trace.most + pad };
 }
 
@@ -1190,14 +1261,15 @@ function reveal(event) {
   else if (lane.y + lane.height > box.scrollTop + room) box.scrollTop = lane.y + lane.height + 8 - room;
 }
 
-// Fits the selected event, or the range, or all.
+// Fits the selected event, or the slice that it ends, or the range, or all.
 function fit() {
-  const { event, range } = chosen;
+  const { range } = chosen;
+  const event = drawnFor(chosen.event);
   if (event !== NONE) {
     const length = Math.max(0, trace.length[event]);
     const pad = length * 0.25 || (timeline.to - timeline.from) * 0.05;
     look(trace.time[event] - pad, trace.time[event] + length + pad);
-    reveal(event);
+    reveal(chosen.event);
   } else if (range) look(range.from, range.to);
   else lookAtAll();
 }
@@ -1207,6 +1279,7 @@ function drawTimeline() {
   timeline.width = box.clientWidth;
   timeline.gutter = box.clientWidth < 860 ? 116 : 168;
   const pen = penOf(canvas, box, HEAD + trace.height);
+  timeline.stride = strideOf(pen);
   drawGrid(pen);
   pen.save();
   pen.beginPath();
@@ -1237,14 +1310,20 @@ function* seenLanes() {
   }
 }
 
-// The times of the ruler: steps of one, two or five, with room for their texts.
+// The steps of the ruler: of one, two or five, with room for their texts.
+function strideOf(pen) {
+  const { from, to, gutter, width } = timeline;
+  const each = Math.max(104, width - gutter) / (to - from); // pixels
+  const room = (stride) =>
+    Math.max(80, ...[from, to].map((time) => pen.measureText(tickText(time, stride)).width)) + 24;
+  for (let power = 10 ** Math.max(0, Math.floor(Math.log10(104 / each))); ; power *= 10)
+    for (const stride of [power, 2 * power, 5 * power]) if (stride * each >= room(stride)) return stride;
+}
+
+// The times of the ruler.
 function* ticks() {
-  const span = timeline.to - timeline.from;
-  const least = span * 104 / Math.max(104, timeline.width - timeline.gutter);
-  const power = 10 ** Math.max(0, Math.floor(Math.log10(least)));
-  const stride = [1, 2, 5, 10].map((it) => it * power).find((it) => it >= least) ?? power * 10;
-  const first = Math.ceil(timeline.from / stride);
-  for (let at = first; at * stride <= timeline.to; at++) yield [at * stride, stride];
+  const { from, to, stride } = timeline;
+  for (let at = Math.ceil(from / stride); at * stride <= to; at++) yield at * stride;
 }
 
 // The text of a time of the ruler, in the unit of the steps.
@@ -1257,19 +1336,25 @@ function tickText(time, stride) {
 
 function drawGrid(pen) {
   pen.fillStyle = colours.faint;
-  for (const [time] of ticks()) pen.fillRect(Math.round(placeOf(time)), HEAD, 1, timeline.box.clientHeight);
+  for (const time of ticks()) pen.fillRect(Math.round(placeOf(time)), HEAD, 1, timeline.box.clientHeight);
 }
 
 function drawRuler(pen) {
-  const { gutter, width } = timeline;
+  const { gutter, width, stride } = timeline;
   pen.fillStyle = colours.ground;
   pen.fillRect(gutter, OVERVIEW, width, HEAD - OVERVIEW);
   pen.fillStyle = colours.muted;
-  for (const [time, stride] of ticks()) {
+  let free = gutter;
+  for (const time of ticks()) {
     const x = Math.round(placeOf(time));
     if (x < gutter) continue;
     pen.fillRect(x, HEAD - 6, 1, 6);
-    pen.fillText(tickText(time, stride), x + 4, OVERVIEW + 11);
+    const text = tickText(time, stride);
+    const size = widthOf(pen, text);
+    // (the last one ends where the ruler does)
+    const left = Math.min(x + 4, width - size - 4);
+    if (left >= free) pen.fillText(text, left, OVERVIEW + 11);
+    free = left + size + 8;
   }
   pen.fillStyle = colours.raised;
   pen.fillRect(0, 0, gutter, HEAD);
@@ -1285,14 +1370,18 @@ function drawRuler(pen) {
 const isFaint = (lane, from, to) => lane.found !== null && lane.found[from] === lane.found[to];
 
 function drawSlices(pen, lane, y) {
-  const { events, start, end } = lane;
+  const { events, start, end, reach } = lane;
   const { from, to } = timeline;
   const size = events.length;
-  let at = firstAt(size, (at) => end[at] >= from);
+  let at = firstAt(size, (at) => reach[at] >= from);
   while (at < size && start[at] <= to) {
     const left = placeSeen(start[at]);
     const right = placeSeen(end[at]);
     let next = at + 1;
+    if (end[at] < from) {
+      at = next;
+      continue;
+    }
     // slices that are thinner than a column are drawn as one
     if (right - left < 1) {
       const edge = timeAt(Math.floor(left) + 1);
@@ -1301,12 +1390,13 @@ function drawSlices(pen, lane, y) {
     drawSlice(pen, lane, at, next, left, Math.max(1, right - left), y);
     at = next;
   }
+  drawOutlines(pen, lane, y);
 }
 
 // A place in a lane after this one, before which all events end before this time.
 function leap(lane, at, edge) {
   let by = 1;
-  while (at + by < lane.end.length && lane.end[at + by] < edge) by *= 2;
+  while (at + by < lane.reach.length && lane.reach[at + by] < edge) by *= 2;
   return at + (by >> 1 || 1);
 }
 
@@ -1326,16 +1416,21 @@ function drawSlice(pen, lane, at, next, left, width, y) {
     write(pen, label, left + 4, left + width - 4, y + room / 2 + 0.5);
   }
   pen.globalAlpha = 1;
-  if (next === at + 1) drawOutline(pen, event, left, y, width, room);
 }
 
-// What tells that an event is selected, or under the pointer.
-function drawOutline(pen, event, left, y, width, height) {
-  const isChosen = event === chosen.event || (trace.partner[event] !== NONE && trace.partner[event] === chosen.event);
-  if (!isChosen && event !== timeline.hover) return;
-  pen.strokeStyle = isChosen ? colours.accent : colours.muted;
-  pen.lineWidth = isChosen ? 2 : 1;
-  pen.strokeRect(left, y, Math.max(2, width), height);
+// What tells that an event of a lane is selected, or under the pointer, also where it is drawn as one with others.
+function drawOutlines(pen, lane, y) {
+  const its = drawnFor(chosen.event);
+  for (const event of new Set([timeline.hover, its])) {
+    const at = event === NONE ? NONE : placeIn(lane, event);
+    if (at === NONE || lane.end[at] < timeline.from || lane.start[at] > timeline.to) continue;
+    const isMark = lane.sort === \"marks\";
+    const left = isMark ? Math.floor(placeOf(lane.start[at])) - 4 : placeSeen(lane.start[at]);
+    const width = isMark ? 10 : Math.max(2, placeSeen(lane.end[at]) - left);
+    pen.strokeStyle = event === its ? colours.accent : colours.muted;
+    pen.lineWidth = event === its ? 2 : 1;
+    pen.strokeRect(left, y, width, lane.height - 1);
+  }
 }
 
 // Instants: a tick each, with a head where there is room for one.
@@ -1353,10 +1448,10 @@ function drawMarks(pen, lane, y) {
     pen.fillRect(x, y + 2, 2, lane.height - 5);
     if (x - last > 7 && ahead - x > 7) pen.fillRect(x - 2, y + 2, 6, 5);
     pen.globalAlpha = 1;
-    if (next === at + 1) drawOutline(pen, events[at], x - 4, y, 10, lane.height - 1);
     last = x;
     at = next;
   }
+  drawOutlines(pen, lane, y);
 }
 
 // The line of a counter: it keeps a value up to the next one. Where many lie in a column it goes from the least of
@@ -1444,8 +1539,10 @@ function drawNames(pen) {
 // A number of a counter, in the unit of its field.
 function numberText(field, number) {
   const isShort = field.unit === \"bytes\" || (field.unit ?? \"\") in TIMES;
-  return isShort ? valueText({ ...field, kind: \"F64\" }, number)
-    : decimal(number, Number.isInteger(number) ? 0 : 3) + (field.unit ? ` ${field.unit}` : \"\");
+  if (isShort) return valueText({ ...field, kind: \"F64\" }, number);
+  const isTiny = number !== 0 && Math.abs(number) < 0.01;
+  const digits = isTiny ? String(Number(number.toPrecision(3))) : decimal(number, Number.isInteger(number) ? 0 : 3);
+  return digits + (field.unit ? ` ${field.unit}` : \"\");
 }
 
 function drawRange(pen) {
@@ -1516,15 +1613,15 @@ function laneAt(y) {
 function eventAt(x, y) {
   const lane = x > timeline.gutter && y > HEAD ? laneAt(y) : null;
   if (lane === null) return NONE;
-  const { events, start, end } = lane;
+  const { events, start, end, reach } = lane;
   const time = timeAt(x);
-  const reach = timeAt(x + 4) - time;
+  const most = timeAt(x + 4) - time;
   const after = firstAt(start.length, (at) => start[at] > time);
   if (lane.sort === \"counter\") return after > 0 ? events[after - 1] : NONE;
-  if (after > 0 && end[after - 1] >= time) return events[after - 1];
+  for (let at = after - 1; at >= 0 && reach[at] >= time; at--) if (end[at] >= time) return events[at];
   const before = after > 0 ? time - end[after - 1] : Infinity;
   const ahead = after < start.length ? start[after] - time : Infinity;
-  if (Math.min(before, ahead) > reach) return NONE;
+  if (Math.min(before, ahead) > most) return NONE;
   return events[before <= ahead ? after - 1 : after];
 }
 
@@ -1607,10 +1704,18 @@ function hover(pointer) {
   timeline.hover = event;
   if (event === NONE) return hideTip();
   const length = trace.length[event] >= 0 ? `${timeText(trace.length[event])} long, ` : \"\";
-  const field = laneAt(pointer.offsetY)?.field;
   const lines = [labelOf(event), `${length}at ${timeText(trace.time[event])}`];
-  if (field) lines.push(`${field.name} ${valueText(field, valueOf(event, field))}`);
+  const lane = laneAt(pointer.offsetY);
+  if (lane?.sort === \"counter\") lines.push(counterText(lane, event));
   showTip(pointer, lines);
+}
+
+// What a counter shows at an event: the number of a gauge, or the sum and the step.
+function counterText(lane, event) {
+  const field = schemaOf(event).counters.findLast((it) => it.name === lane.field.name);
+  const value = valueText(field, valueOf(event, field));
+  if (field.counter === \"gauge\") return `${field.name} ${value}`;
+  return `${field.name} ${numberText(lane.field, lane.values[placeIn(lane, event)])}, by a step of ${value}`;
 }
 
 function showTip({ clientX, clientY }, lines) {
@@ -1651,7 +1756,7 @@ function laneOfKeys() {
 
 // The event that is drawn for one: the begin for its end.
 function drawnFor(event) {
-  const begin = event !== NONE && schemaOf(event).shape === END ? trace.partner[event] : NONE;
+  const begin = event !== NONE && shapeOf(event) === END ? trace.partner[event] : NONE;
   return begin === NONE ? event : begin;
 }
 
@@ -1751,7 +1856,7 @@ function columnsOf(only) {
   const wide = table.box.clientWidth < 760 ? 0.84 : 1;
   const columns = [
     { id: \"time\", title: \"Time\", width: 150 * wide, isNumber: true, text: timeCell, key: (it) => trace.time[it] },
-    { id: \"event\", title: \"Event\", width: 190 * wide, text: labelOf, ranks: labelOf },
+    { id: \"event\", title: \"Event\", width: 180 * wide, text: labelOf, ranks: labelOf },
     { id: \"track\", title: \"Track\", width: 130 * wide, text: trackName, key: (it) => trace.trackOf[it] },
     { id: \"length\", title: \"Length\", width: 116 * wide, isNumber: true, text: lengthCell, key: lengthOf },
   ];
@@ -1783,8 +1888,8 @@ function timeCell(event) {
 
 function fieldNodes(event) {
   return schemaOf(event).fields.slice(0, MOST_COLUMNS).filter((field) => valueOf(event, field) !== null)
-    .flatMap((field) => [make(\"span\", { className: \"key\" }, shown(field.name, 60)),
-      isolated(valueText(field, valueOf(event, field)), 120)]);
+    .flatMap((field) => [make(\"bdi\", { className: \"key\" }, shown(field.name, 60)),
+      isolated(valueText(field, valueOf(event, field)), 120, isNumber(field.kind))]);
 }
 
 // Orders the listed events as the table's head says.
@@ -1821,7 +1926,7 @@ function drawTable() {
   const height = TABLE_HEAD + Math.min(HIGHEST, rows.length * ROW);
   const [sheet] = box.children;
   sheet.style.height = `${height}px`;
-  sheet.style.minWidth = `${table.columns.reduce((sum, it) => sum + (it.width || 360), 0)}px`;
+  sheet.style.minWidth = `${table.columns.reduce((sum, it) => sum + (it.width || 300), 0)}px`;
   const seen = Math.max(1, Math.floor((box.clientHeight - TABLE_HEAD) / ROW));
   const last = Math.max(0, rows.length - seen);
   if (table.reveal !== NONE) revealRow(seen, last);
@@ -1887,7 +1992,7 @@ function fillRows(body, events, first) {
     row.replaceChildren(...table.columns.map((column) => {
       const cell = make(\"td\", { className: column.isNumber ? \"number\" : \"\" });
       if (column.nodes) cell.append(...column.nodes(event));
-      else cell.append(isolated(column.text(event), 300));
+      else cell.append(isolated(column.text(event), 300, column.isNumber));
       return cell;
     }));
   });
@@ -2228,12 +2333,13 @@ function showDetails() {
   }
   const schema = schemaOf(event);
   const label = labelOf(event);
-  const parts = [make(\"h2\", { dir: \"auto\" }, shown(label))];
-  if (label !== schema.name) parts.push(make(\"p\", { className: \"muted\", dir: \"auto\" }, shown(schema.name)));
+  const title = (text) => shown(text, MOST_TITLE);
+  const parts = [make(\"h2\", { dir: \"auto\" }, title(label))];
+  if (label !== schema.name) parts.push(make(\"p\", { className: \"muted\", dir: \"auto\" }, title(schema.name)));
   parts.push(...warnings(event), placeTable(event), make(\"h3\", {}, \"Fields\"), fieldTable(event));
   const { partner } = trace;
   if (partner[event] !== NONE) {
-    const isEnd = schema.shape === END;
+    const isEnd = shapeOf(event) === END;
     parts.push(make(\"h3\", {}, isEnd ? \"Fields of its begin\" : \"Fields of its end\"), fieldTable(partner[event]));
   }
   for (const field of schema.stacks) parts.push(...stackList(field, valueOf(event, field)));
@@ -2243,7 +2349,7 @@ function showDetails() {
 
 function warnings(event) {
   const warning = (text) => [make(\"p\", { className: \"warning\" }, text)];
-  const isEnd = schemaOf(event).shape === END;
+  const isEnd = shapeOf(event) === END;
   if (isOpen(event)) return warning(\"It has no end in this trace.\");
   if (isEnd && trace.partner[event] === NONE) return warning(\"It has no begin in this trace.\");
   const isUnknown = (field) => !Array.isArray(valueOf(event, field)) && typeof valueOf(event, field) === \"object\";
@@ -2288,7 +2394,9 @@ function fieldTable(event) {
     const isAll = unit === field.unit && Number(number.replaceAll(\",\", \"\")) === numberOf(value);
     const digits = isWhole(field.kind) ? exactly(plain, 0) : plain;
     const detail = isShort && !isAll ? [exact(`${digits} ${field.unit}`)] : [];
-    return rowOf(field.name, make(\"bdi\", { className: value === null ? \"muted\" : \"\" }, shown(text)), ...detail);
+    const cell = isolated(text, 4000, isNumber(field.kind));
+    cell.className = value === null ? \"muted\" : \"\";
+    return rowOf(field.name, cell, ...detail);
   }), ...last);
 }
 
@@ -2337,7 +2445,7 @@ function dropSomething() {
 
 // A range of the time of the selected slice, or of what is seen.
 function rangeHere() {
-  const { event } = chosen;
+  const event = drawnFor(chosen.event);
   if (event !== NONE && trace.length[event] > 0) setRange({ from: trace.time[event], to: endTime(event) });
   else setRange({ from: timeline.from, to: timeline.to });
 }
@@ -2406,7 +2514,9 @@ function startControls() {
 function startDivider() {
   const divider = byId(\"divider\");
   const main = divider.parentElement;
+  let wish = 0;
   const set = (height) => {
+    wish = height;
     const most = main.clientHeight - 160;
     main.style.setProperty(\"--timeline\", `${Math.round(Math.max(HEAD + 40, Math.min(most, height)))}px`);
     drawSoon();
@@ -2418,6 +2528,7 @@ function startDivider() {
   });
   onKeys(divider, { ArrowUp: () => set(height() - 24), ArrowDown: () => set(height() + 24) });
   set(Math.min(HEAD + trace.height + 12, main.clientHeight * 0.52));
+  new ResizeObserver(() => set(wish)).observe(main);
 }
 
 // What the head of the page says of the trace.
@@ -2434,10 +2545,13 @@ function showFacts() {
   }
   byId(\"facts\").textContent = byId(\"facts\").title = parts.join(\" \\u00b7 \");
   if (trace.end !== null) notice(`This trace was not read to its end: ${trace.end}`);
+  if (trace.hasNoDates) notice(\"There are no dates, since the events may be of several clocks. \" +
+    \"Then their times are not to be compared.\");
 }
 
+// Says something above all else, below what was said there before.
 function notice(text) {
-  byId(\"notice\").textContent = shown(text);
+  byId(\"notice\").append(make(\"p\", {}, shown(text)));
   byId(\"notice\").hidden = false;
 }
 
