@@ -4,7 +4,7 @@
 
 use crate::tests::ample::events::absent;
 use crate::tests::ample::schemas::fields;
-use crate::tests::ample::{COUNTS, MILLION, SIZED, SIZES, spelled_length, text, value};
+use crate::tests::ample::{COUNTS, MILLION, SIZED, SIZES, read_value, spelled, text};
 use crate::tests::calls::{fresh, into_encoder, read_out, run};
 use crate::tests::checks::reads_all;
 use crate::tests::traces::{HEADER, one_field};
@@ -350,8 +350,9 @@ fn fields_under_a_slot(rt: HostRuntime) -> Result<(), Fail> {
 /// A value of this size, under a slot that is the wire id, and by the name.
 fn is_sized(alloc: Global, field_type: FieldType, size: usize) -> Result<bool, Fail> {
     let schema = one_field(alloc, "K", "f", field_type)?;
-    let values = [value(alloc, field_type, size)?];
-    let length = spelled_length(field_type, size).saturating_add(24);
+    let spelled = spelled(alloc, field_type, size)?;
+    let values = [read_value(alloc, field_type, &spelled)?];
+    let length = (spelled.len() as u64).saturating_add(24);
     Ok(
         are_written(alloc, 128, &schema, &values, length)?
             && are_written(alloc, 0, &schema, &values, length)?,

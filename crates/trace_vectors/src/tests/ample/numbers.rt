@@ -50,7 +50,7 @@ fn is_written(alloc: Global, value: &FieldValue) -> Result<bool, Fail> {
 }
 
 /// The field of the optional type has these bytes after one of presence.
-fn is_optional(
+pub fn is_optional(
     alloc: Global,
     field_type: FieldType,
     value: &FieldValue,
