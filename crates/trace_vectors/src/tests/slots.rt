@@ -365,6 +365,13 @@ fn values_under_a_slot(rt: HostRuntime) -> Result<(), Fail> {
         for size in SIZES {
             assert!(rt; is_sized(rt.alloc(), field_type, size)?);
         }
+    }
+    Ok(())
+}
+
+#[test]
+fn values_of_a_million_under_a_slot(rt: HostRuntime) -> Result<(), Fail> {
+    for field_type in SIZED {
         assert!(rt; is_sized(rt.alloc(), field_type, MILLION)?);
     }
     Ok(())

@@ -67,6 +67,13 @@ fn events_of_each_size(rt: HostRuntime) -> Result<(), Fail> {
         for size in SIZES {
             check_sized(&rt, rt.alloc(), field_type, size)?;
         }
+    }
+    Ok(())
+}
+
+#[test]
+fn events_of_a_million(rt: HostRuntime) -> Result<(), Fail> {
+    for field_type in SIZED {
         check_sized(&rt, rt.alloc(), field_type, MILLION)?;
     }
     Ok(())

@@ -1,7 +1,6 @@
 //! Conversions of ids in lists and maps. `tools/ample_users` has values of each kind and size.
 
-use crate::tests::calls::decoder_of;
-use dial9_trace_format::decoder::TryForEachError;
+use dial9_trace_format::decoder::{Decoder, TryForEachError};
 use dial9_trace_format::encoder::Encoder;
 use std::alloc::Global;
 use std::test::Fail;
@@ -51,7 +50,7 @@ pub fn converted<'r>(
     trace: &[u8],
     rules: &'r [Rule<'r>],
 ) -> Result<(Vec<u8>, Option<TryForEachError<ConvertError>>), Fail> {
-    let mut decoder = decoder_of(alloc, trace)?;
+    let mut decoder = Decoder::new(alloc, trace).ok_or("no header")?;
     let mut converter = Converter::new(alloc, rules, Encoder::new(alloc)?);
     let refused = decoder.try_for_each_event(&mut converter).err();
     Ok((converter.into_encoder().finish(), refused))

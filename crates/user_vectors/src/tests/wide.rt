@@ -4,7 +4,7 @@
 ghost use Rattle.std.specs.Prelude.{[], ◌∷◌, refl, string_bytes};
 ghost use Rattle.dial9_trace_format.specs.Words.{constant_entry, number, integer, float, boolean, text};
 ghost use Rattle.dial9_trace_format.specs.Words.{pooled_text, pooled_stack, value_of_option};
-ghost use Rattle.trace_vectors.specs.declared.tests.wide.TheConstants.{WIDE};
+ghost use Rattle.user_vectors.specs.declared.tests.wide.TheConstants.{WIDE};
 
 use crate::tests::conversions::converted;
 use dial9_trace_format::definition::Definition;
