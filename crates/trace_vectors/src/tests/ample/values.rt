@@ -57,13 +57,17 @@ fn values_of_a_million(rt: HostRuntime) -> Result<(), Fail> {
     Ok(())
 }
 
+/// Writes a text, and its bytes.
+fn write_twice(encoder: &mut EventEncoder<'_>, text: &str) -> Result<(), EncodeError> {
+    encoder.write_string(text)?;
+    encoder.write_bytes(text.as_bytes())
+}
+
 /// A text and bytes of this size, written by their own calls.
 fn texts_and_bytes(alloc: Global, size: usize) -> Result<Vec<u8>, EncodeError> {
     let text = text(alloc, size)?;
     let mut out = Vec::new(alloc);
-    let mut encoder = EventEncoder::new(&mut out);
-    encoder.write_string(text.as_str())?;
-    encoder.write_bytes(text.as_str().as_bytes())?;
+    write_twice(&mut EventEncoder::new(&mut out), text.as_str())?;
     Ok(out)
 }
 
