@@ -12,8 +12,6 @@ mod reading;
 mod record_bytes;
 pub mod recording;
 mod taking;
-#[cfg(test)]
-mod tests;
 
 pub use asking::calls_of;
 pub use batch_error::{BatchCause, BatchError};

@@ -7,8 +7,6 @@ mod frames;
 mod labels;
 pub mod laws;
 pub mod sending;
-#[cfg(test)]
-mod tests;
 mod times;
 pub mod trace;
 mod tracks;

@@ -5,6 +5,4 @@ pub mod converter;
 mod fields;
 pub mod laws;
 pub mod rules;
-#[cfg(test)]
-mod tests;
 mod values;

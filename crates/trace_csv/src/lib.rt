@@ -8,5 +8,3 @@ pub mod kinds;
 pub mod laws;
 pub mod manifest;
 pub mod tables;
-#[cfg(test)]
-mod tests;

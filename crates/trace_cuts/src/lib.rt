@@ -4,5 +4,3 @@
 mod copying;
 pub mod cut;
 pub mod range;
-#[cfg(test)]
-mod tests;

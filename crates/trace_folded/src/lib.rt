@@ -4,6 +4,4 @@
 pub mod event;
 pub mod stack;
 pub mod tally;
-#[cfg(test)]
-mod tests;
 pub mod text;

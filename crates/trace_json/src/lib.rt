@@ -6,7 +6,5 @@ pub mod laws;
 pub mod leaves;
 pub mod line;
 mod parts;
-#[cfg(test)]
-mod tests;
 mod texts;
 pub mod value;

@@ -8,6 +8,4 @@ mod names;
 mod numbers;
 mod schemas;
 pub mod sending;
-#[cfg(test)]
-mod tests;
 mod values;

@@ -3,6 +3,4 @@
 
 pub mod clock;
 pub mod roles;
-#[cfg(test)]
-mod tests;
 pub mod units;

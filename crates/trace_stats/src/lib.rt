@@ -7,6 +7,4 @@ mod measure;
 mod same;
 pub mod schema;
 pub mod summary;
-#[cfg(test)]
-mod tests;
 pub mod trace;

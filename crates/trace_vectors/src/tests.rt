@@ -24,6 +24,7 @@ mod resolved;
 mod resuming;
 mod sending;
 mod sinks;
+mod slots;
 mod sticking;
 mod texts;
 mod told;

@@ -1,7 +1,8 @@
 //! Copies of schemas, and of maps.
 
+use crate::tests::ample::read_value;
 use dial9_trace_format::schema::{FieldAnnotation, FieldDef, SchemaEntry};
-use dial9_trace_format::types::{FieldType, FieldValue};
+use dial9_trace_format::types::FieldType;
 use std::alloc::{AllocError, Global};
 use std::test::Fail;
 
@@ -60,30 +61,31 @@ fn copied_entry(rt: HostRuntime) -> Result<(), Fail> {
     Ok(())
 }
 
-/// A map of two pairs of numbers, or a map of two texts under two.
-fn map_of_two(alloc: Global, of_texts: bool) -> Result<FieldValue, AllocError> {
-    if of_texts {
-        let mut texts = Vec::new(alloc);
-        texts.push((Vec::from_slice(alloc, b"a")?, Vec::from_slice(alloc, b"b")?))?;
-        texts.push((Vec::from_slice(alloc, b"")?, Vec::from_slice(alloc, b"c")?))?;
-        return Ok(FieldValue::StringMap(texts));
-    }
-    let mut pairs = Vec::new(alloc);
-    pairs.push((FieldValue::Varint(1), FieldValue::Varint(2)))?;
-    pairs.push((FieldValue::Varint(3), FieldValue::None))?;
-    Ok(FieldValue::Map(pairs))
-}
+/// The spellings of a map of two texts under two, and of a map of two pairs of numbers, the last of which is absent.
+const MAPS: [(FieldType, &[u8]); 2] = [
+    (
+        FieldType::StringMap,
+        &[
+            2, 0, 0, 0, 1, 0, 0, 0, b'a', 1, 0, 0, 0, b'b', 0, 0, 0, 0, 1, 0, 0, 0, b'c',
+        ],
+    ),
+    (
+        FieldType::DynamicMap,
+        &[2, 0, 0, 0, 0x09, 1, 0x09, 2, 0x09, 3, 0x8B, 0],
+    ),
+];
 
-/// The copy of a map of two pairs has both.
-fn is_map_copied(alloc: Global, of_texts: bool) -> Result<bool, AllocError> {
-    let map = map_of_two(alloc, of_texts)?;
+/// The copy of a map is equal to it, and has both pairs.
+fn is_map_copied(alloc: Global, field_type: FieldType, bytes: &[u8]) -> Result<bool, Fail> {
+    let map = read_value(alloc, field_type, bytes)?;
     let copy = map.clone(alloc)?;
-    Ok(copy == map && copy == map_of_two(alloc, of_texts)?)
+    Ok(copy == map && copy == read_value(alloc, field_type, bytes)?)
 }
 
 #[test]
 fn copied_maps(rt: HostRuntime) -> Result<(), Fail> {
-    assert!(rt; is_map_copied(rt.alloc(), false)?);
-    assert!(rt; is_map_copied(rt.alloc(), true)?);
+    for (field_type, bytes) in MAPS {
+        assert!(rt; is_map_copied(rt.alloc(), field_type, bytes)?);
+    }
     Ok(())
 }

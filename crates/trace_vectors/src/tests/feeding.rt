@@ -1,12 +1,13 @@
 //! A trace that is fed in pieces.
 
-use crate::tests::calls::{all, decoder_of, next};
+use crate::tests::ample::fed::{is_fed, is_pulled};
+use crate::tests::calls::{all_of, decoder_of, next};
 use crate::tests::traces::{CONFLICT, HEADER, ONE_EVENT, THREE_EVENTS};
 use dial9_trace_format::codec::WireTypeId;
 use dial9_trace_format::decoder::{
     DecodeError, DecodeErrorKind, DecodedFrame, Decoder, FeedDecoder,
 };
-use std::alloc::Global;
+use std::alloc::{AllocError, Global};
 use std::test::Fail;
 
 /// So many frames were given, and the decoder is at this place.
@@ -30,15 +31,30 @@ fn is_refused(feed: &mut FeedDecoder, piece: &[u8], kind: DecodeErrorKind) -> bo
     }
 }
 
+/// The pieces of one event, each with how many frames it gives and where the decoder is then.
+const PIECES: [(&[u8], usize, usize); 6] = [
+    (&[0x54, 0x52, 0x43, 0x00], 0, 0),
+    (&[0x01], 0, 5),
+    (
+        &[
+            0x01, 0x00, 0x01, 0x02, 0x00, 0x45, 0x76, 0x01, 0x01, 0x00, 0x01, 0x00, 0x76,
+        ],
+        0,
+        5,
+    ),
+    (&[0x09], 1, 19),
+    (&[], 0, 19),
+    (&[0x02, 0x00, 0x01, 0xE8, 0x03, 0x00, 0x2A], 1, 26),
+];
+
 #[test]
 fn one_event_in_pieces(rt: HostRuntime) -> Result<(), Fail> {
     let mut feed = FeedDecoder::new(rt.alloc());
-    assert!(rt; gives(&mut feed, &ONE_EVENT[..4], 0, 0)? && feed.version() == None);
-    assert!(rt; gives(&mut feed, &ONE_EVENT[4..5], 0, 5)? && feed.version() == Some(1));
-    assert!(rt; gives(&mut feed, &ONE_EVENT[5..18], 0, 5)?);
-    assert!(rt; gives(&mut feed, &ONE_EVENT[18..19], 1, 19)?);
-    assert!(rt; gives(&mut feed, &[], 0, 19)?);
-    assert!(rt; gives(&mut feed, &ONE_EVENT[19..], 1, 26)? && feed.fed_len() == 26);
+    for (piece, count, place) in PIECES {
+        assert!(rt; gives(&mut feed, piece, count, place)?);
+        assert!(rt; feed.version() == if place == 0 { None } else { Some(1) });
+    }
+    assert!(rt; feed.fed_len() == 26);
     Ok(())
 }
 
@@ -71,33 +87,32 @@ fn no_header(rt: HostRuntime) -> Result<(), Fail> {
     Ok(())
 }
 
-/// Fed in pieces of a length, the trace gives as many frames as at once.
+/// Traces of one piece and more, one of which ends at a conflict.
+const TRACES: [&[u8]; 4] = [&ONE_EVENT, &THREE_EVENTS, &CONFLICT, &TWO_SCHEMAS];
+
+/// Fed or pulled in pieces of a length, the trace gives the frames that it gives at once, to its end.
 fn gives_as_many(alloc: Global, bytes: &[u8], length: usize) -> Result<bool, Fail> {
-    let mut decoder = decoder_of(alloc, bytes)?;
-    let mut feed = FeedDecoder::new(alloc);
-    let wanted = all(&mut decoder)?;
-    let mut frames = Vec::new(alloc);
-    for piece in bytes.chunks(length.max(1)) {
-        frames.extend(feed.feed(piece)?)?;
-    }
-    Ok(frames == wanted && feed.position() == decoder.position())
+    let frames = all_of(alloc, bytes)?;
+    Ok(is_fed(alloc, bytes, length, &frames)? && is_pulled(alloc, bytes, length, &frames)?)
 }
 
 #[test]
 fn in_any_pieces(rt: HostRuntime) -> Result<(), Fail> {
-    for length in 1..8 {
-        assert!(rt; gives_as_many(rt.alloc(), &ONE_EVENT, length)?);
-        assert!(rt; gives_as_many(rt.alloc(), &THREE_EVENTS, length)?);
-        assert!(rt; gives_as_many(rt.alloc(), &CONFLICT, length)?);
+    for bytes in TRACES {
+        for length in 1..8 {
+            assert!(rt; gives_as_many(rt.alloc(), bytes, length)?);
+        }
     }
     Ok(())
 }
 
-/// Two traces, one after the other.
-fn twice(alloc: Global) -> Result<Vec<u8>, Fail> {
+/// The trace of one event so many times, and then these bytes.
+fn repeated(alloc: Global, count: usize, rest: &[u8]) -> Result<Vec<u8>, AllocError> {
     let mut bytes = Vec::new(alloc);
-    bytes.extend_from_slice(&ONE_EVENT)?;
-    bytes.extend_from_slice(&ONE_EVENT)?;
+    for _ in 0..count {
+        bytes.extend_from_slice(&ONE_EVENT)?;
+    }
+    bytes.extend_from_slice(rest)?;
     Ok(bytes)
 }
 
@@ -114,7 +129,7 @@ fn gives_cut(alloc: Global, bytes: &[u8], cut: usize, count: usize) -> Result<bo
 
 #[test]
 fn two_traces_cut_anywhere(rt: HostRuntime) -> Result<(), Fail> {
-    let bytes = twice(rt.alloc())?;
+    let bytes = repeated(rt.alloc(), 2, &[])?;
     for cut in 0..bytes.len() {
         assert!(rt; gives_cut(rt.alloc(), bytes.as_slice(), cut, 4)?);
     }
@@ -122,13 +137,8 @@ fn two_traces_cut_anywhere(rt: HostRuntime) -> Result<(), Fail> {
 }
 
 /// The trace of one event three times, and a header.
-fn three_and_a_header(alloc: Global) -> Result<Vec<u8>, Fail> {
-    let mut bytes = Vec::new(alloc);
-    for _ in 0..3 {
-        bytes.extend_from_slice(&ONE_EVENT)?;
-    }
-    bytes.extend_from_slice(&HEADER)?;
-    Ok(bytes)
+fn three_and_a_header(alloc: Global) -> Result<Vec<u8>, AllocError> {
+    repeated(alloc, 3, &HEADER)
 }
 
 /// How many headers are whole in so many first bytes of these: each trace has 26.
@@ -147,16 +157,26 @@ fn stands_after(decoder: &mut Decoder<'_>, frame: bool, headers: u64) -> Result<
     Ok(next(decoder)?.is_some() == frame && decoder.headers() == headers)
 }
 
+/// Each frame with how many headers stand before it.
+const FRAMES: [(bool, u64); 8] = [
+    (true, 1),
+    (true, 1),
+    (true, 2),
+    (true, 2),
+    (true, 3),
+    (true, 3),
+    (false, 4),
+    (false, 4),
+];
+
 #[test]
 fn headers_are_counted(rt: HostRuntime) -> Result<(), Fail> {
     let bytes = three_and_a_header(rt.alloc())?;
     let mut decoder = decoder_of(rt.alloc(), bytes.as_slice())?;
     assert!(rt; decoder.headers() == 1);
-    for headers in [1, 1, 2, 2, 3, 3] {
-        assert!(rt; stands_after(&mut decoder, true, headers)?);
+    for (frame, headers) in FRAMES {
+        assert!(rt; stands_after(&mut decoder, frame, headers)?);
     }
-    assert!(rt; stands_after(&mut decoder, false, 4)?);
-    assert!(rt; stands_after(&mut decoder, false, 4)?);
     Ok(())
 }
 
@@ -212,54 +232,56 @@ const TWO_SCHEMAS: [u8; 52] = [
     0x05, 0x00, 0x00, 0x01,
 ];
 
-/// The next frame, and whether the first field of schema 256 has this name then.
-fn pulls_with(feed: &mut FeedDecoder, field: &str) -> Result<bool, Fail> {
-    let frame = feed.next_frame()?.ok_or("no frame")?;
-    let entry = feed.registry().get(WireTypeId(256)).ok_or("no schema")?;
-    let first = entry.fields().first().ok_or("no field")?;
-    let event = matches!(frame, DecodedFrame::Event { .. });
-    Ok(first.name() == field && event == (feed.position() == 26 || feed.position() == 52))
+/// The first field of the schema of wire id 256 has this name.
+fn has_field(feed: &FeedDecoder, name: &str) -> bool {
+    let Some(entry) = feed.registry().get(WireTypeId(256)) else {
+        return false;
+    };
+    match entry.fields().first() {
+        Some(field) => field.name() == name,
+        None => false,
+    }
+}
+
+/// The next frame, which ends here, is an event or not, beside a schema with a field of this name.
+fn pulls_with(
+    feed: &mut FeedDecoder,
+    event: bool,
+    field: &str,
+    place: usize,
+) -> Result<bool, Fail> {
+    match feed.next_frame()? {
+        Some(frame) => Ok(
+            matches!(frame, DecodedFrame::Event { .. }) == event
+                && has_field(feed, field)
+                && feed.position() == place,
+        ),
+        None => Ok(false),
+    }
+}
+
+/// Whether each frame is an event, the field that stands beside it, and where it ends.
+const BESIDE: [(bool, &str, usize); 4] = [
+    (false, "v", 19),
+    (true, "v", 26),
+    (false, "w", 45),
+    (true, "w", 52),
+];
+
+/// Nothing was read yet of so many bytes.
+fn is_fresh(feed: &FeedDecoder, count: usize) -> bool {
+    feed.version() == None && feed.position() == 0 && feed.fed_len() == count
 }
 
 #[test]
 fn frames_stand_beside_their_schemas(rt: HostRuntime) -> Result<(), Fail> {
     let mut feed = FeedDecoder::new(rt.alloc());
     feed.push(&TWO_SCHEMAS)?;
-    assert!(rt; feed.version() == None && feed.position() == 0 && feed.fed_len() == 52);
-    assert!(rt; pulls_with(&mut feed, "v")? && feed.position() == 19);
-    assert!(rt; pulls_with(&mut feed, "v")? && feed.position() == 26);
-    assert!(rt; pulls_with(&mut feed, "w")? && feed.position() == 45);
-    assert!(rt; pulls_with(&mut feed, "w")? && feed.position() == 52);
+    assert!(rt; is_fresh(&feed, 52));
+    for (event, field, place) in BESIDE {
+        assert!(rt; pulls_with(&mut feed, event, field, place)?);
+    }
     assert!(rt; feed.next_frame()?.is_none() && feed.version() == Some(1));
-    Ok(())
-}
-
-/// Pushed in pieces of a length, and pulled frame by frame, the trace gives as many frames as at once.
-fn pulls_as_many(alloc: Global, bytes: &[u8], length: usize) -> Result<bool, Fail> {
-    let mut decoder = decoder_of(alloc, bytes)?;
-    let mut feed = FeedDecoder::new(alloc);
-    let wanted = all(&mut decoder)?;
-    let mut frames = Vec::new(alloc);
-    for piece in bytes.chunks(length.max(1)) {
-        feed.push(piece)?;
-        for _ in 0..bytes.len() {
-            match feed.next_frame() {
-                Ok(Some(frame)) => frames.push(frame)?,
-                _ => break,
-            }
-        }
-    }
-    Ok(frames == wanted && feed.position() == decoder.position())
-}
-
-#[test]
-fn pulled_in_any_pieces(rt: HostRuntime) -> Result<(), Fail> {
-    for length in 1..8 {
-        assert!(rt; pulls_as_many(rt.alloc(), &ONE_EVENT, length)?);
-        assert!(rt; pulls_as_many(rt.alloc(), &THREE_EVENTS, length)?);
-        assert!(rt; pulls_as_many(rt.alloc(), &CONFLICT, length)?);
-        assert!(rt; pulls_as_many(rt.alloc(), &TWO_SCHEMAS, length)?);
-    }
     Ok(())
 }
 

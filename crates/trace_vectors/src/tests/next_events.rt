@@ -5,10 +5,9 @@ use crate::tests::sinks::is_error;
 use crate::tests::traces::{CONFLICT, ONE_EVENT};
 use dial9_trace_format::codec::WireTypeId;
 use dial9_trace_format::decoder::{DecodeError, DecodeErrorKind, Decoder, EventHead};
-use dial9_trace_format::types::{
-    FieldValue, FieldValueRef, InternedStackFrames, InternedString, StackFrames,
-};
-use std::alloc::{AllocError, Global};
+use dial9_trace_format::schema::FieldDef;
+use dial9_trace_format::types::{EventEncoder, FieldValue, FieldValueRef};
+use std::alloc::Global;
 use std::test::Fail;
 
 /// Header; the schema `Ev` of wire id 256, whose fields `a` to `q` are of the fifteen plain types in the order of their
@@ -40,61 +39,6 @@ const TRACE: [u8; 313] = [
     0x09, 0x02, 0x00, 0x01, 0x02, 0x00, 0x00, 0xAC, 0x02,
 ];
 
-/// The pair of `k` and `v`.
-fn one_pair(alloc: Global) -> Result<FieldValue, AllocError> {
-    let (key, value) = (vec![in alloc; 0x6B]?, vec![in alloc; 0x76]?);
-    Ok(FieldValue::StringMap(vec![in alloc; (key, value)]?))
-}
-
-/// The list of 1 and true.
-fn a_list(alloc: Global) -> Result<FieldValue, AllocError> {
-    let mut items = Vec::new(alloc);
-    items.push(FieldValue::Varint(1))?;
-    items.push(FieldValue::Bool(true))?;
-    Ok(FieldValue::List(items))
-}
-
-/// The map of `x` to 2.
-fn a_map(alloc: Global) -> Result<FieldValue, AllocError> {
-    let mut pairs = Vec::new(alloc);
-    pairs.push((FieldValue::string(alloc, "x")?, FieldValue::Varint(2)))?;
-    Ok(FieldValue::Map(pairs))
-}
-
-/// The addresses 16 and 32.
-fn a_stack(alloc: Global) -> Result<FieldValue, AllocError> {
-    Ok(FieldValue::StackFrames(StackFrames::from_slice(alloc, &[16, 32])?))
-}
-
-/// Those of the first seven fields of the first event.
-fn first_values(alloc: Global) -> Result<[FieldValue; 7], AllocError> {
-    Ok([
-        FieldValue::I64(-2),
-        FieldValue::F64(0x3FF8_0000_0000_0000),
-        FieldValue::Bool(true),
-        FieldValue::string(alloc, "hi")?,
-        FieldValue::Bytes(Vec::from_slice(alloc, &[0xFF, 0])?),
-        FieldValue::PooledStackFrames(InternedStackFrames::from_raw(3)),
-        FieldValue::PooledString(InternedString::from_raw(4)),
-    ])
-}
-
-/// Those of the other ten.
-fn other_values(alloc: Global) -> Result<[FieldValue; 10], AllocError> {
-    Ok([
-        a_stack(alloc)?,
-        FieldValue::Varint(300),
-        one_pair(alloc)?,
-        FieldValue::Varint(5),
-        FieldValue::Varint(300),
-        FieldValue::Varint(70_000),
-        a_list(alloc)?,
-        a_map(alloc)?,
-        FieldValue::Varint(5),
-        FieldValue::None,
-    ])
-}
-
 /// Goes to the next event, whose values are put into the list.
 fn next_owned(
     decoder: &mut Decoder<'_>,
@@ -119,71 +63,76 @@ fn is_head(head: Option<EventHead>, id: u16, time: u64) -> bool {
     }
 }
 
-/// The list has the values of the first event.
-fn are_all_kinds(alloc: Global, values: &[FieldValue]) -> Result<bool, AllocError> {
-    let (first, others) = (first_values(alloc)?, other_values(alloc)?);
-    Ok(values.get(..7) == Some(first.as_slice()) && values.get(7..) == Some(others.as_slice()))
-}
+/// What the decoder has taken along before the event that it gave, since the last header: whether the second schema,
+/// how many texts, stacks, and annotations of the first schema.
+type Known = (bool, usize, usize, usize);
 
-/// What the decoder has taken along before the event that ends here: schemas, texts and stacks since the last header.
-fn knows(decoder: &Decoder<'_>, schemas: [bool; 2], texts: usize, stacks: usize) -> bool {
+/// An event's wire id, its time, how many headers stand before it, where its values begin and end, and what is known.
+type Row = (u16, u64, u64, (usize, usize), Known);
+
+/// Before the first event stand the frames before it, and none after it; the third stands in a trace of its own.
+const EVENTS: [Row; 3] = [
+    (256, 1_000, 1, (107, 210), (false, 1, 0, 0)),
+    (257, 5_001, 1, (284, 286), (true, 1, 1, 1)),
+    (256, 2, 2, (311, 313), (false, 0, 0, 0)),
+];
+
+/// The decoder knows so much.
+fn knows(decoder: &Decoder<'_>, known: Known) -> bool {
+    let (second, texts, stacks, notes) = known;
     let registry = decoder.registry();
-    registry.get(WireTypeId(256)).is_some() == schemas[0]
-        && registry.get(WireTypeId(257)).is_some() == schemas[1]
+    let Some(first) = registry.get(WireTypeId(256)) else {
+        return false;
+    };
+    first.annotations().len() == notes
+        && registry.get(WireTypeId(257)).is_some() == second
         && decoder.string_pool().len() == texts
         && decoder.stack_pool().len() == stacks
 }
 
-/// The first schema has so many annotations.
-fn has_notes(decoder: &Decoder<'_>, count: usize) -> bool {
-    match decoder.registry().get(WireTypeId(256)) {
-        Some(schema) => schema.annotations().len() == count,
-        None => false,
+/// The values, written as the fields of this schema.
+fn written(alloc: Global, fields: &[FieldDef], values: &[FieldValue]) -> Result<Vec<u8>, Fail> {
+    let mut out = Vec::new(alloc);
+    let mut encoder = EventEncoder::new(&mut out);
+    for (value, field) in values.iter().zip(fields) {
+        encoder.write_field_value(value, field.field_type())?;
     }
+    Ok(out)
 }
 
-/// After the first event stand the frames before it, and none after it.
-fn is_at_first(decoder: &Decoder<'_>) -> bool {
-    decoder.position() == 210 && knows(decoder, [true, false], 1, 0) && has_notes(decoder, 0)
+/// The values are those of the fields of the schema, whose bytes stand here.
+fn are_values(
+    alloc: Global,
+    decoder: &Decoder<'_>,
+    id: u16,
+    values: &[FieldValue],
+    place: (usize, usize),
+) -> Result<bool, Fail> {
+    let Some(schema) = decoder.registry().get(WireTypeId(id)) else {
+        return Ok(false);
+    };
+    let bytes = written(alloc, schema.fields(), values)?;
+    Ok(
+        values.len() == schema.fields().len()
+            && TRACE.get(place.0..place.1) == Some(bytes.as_slice()),
+    )
 }
 
-/// The same of the second.
-fn is_at_second(decoder: &Decoder<'_>) -> bool {
-    decoder.position() == 286 && knows(decoder, [true, true], 1, 1) && has_notes(decoder, 1)
-}
-
-/// After the third, which stands in a trace of its own, nothing of the first trace is known.
-fn is_at_third(decoder: &Decoder<'_>) -> bool {
-    decoder.position() == 313
-        && decoder.headers() == 2
-        && knows(decoder, [true, false], 0, 0)
-        && has_notes(decoder, 0)
-}
-
-/// The first event comes, with a value of each kind.
-fn gives_first(
+/// The event comes, with its values in place of all others.
+fn gives(
     alloc: Global,
     decoder: &mut Decoder<'_>,
     values: &mut Vec<FieldValue>,
+    row: Row,
 ) -> Result<bool, Fail> {
-    let is_first = is_head(next_owned(decoder, values)?, 256, 1_000);
-    Ok(is_first && are_all_kinds(alloc, values)? && is_at_first(decoder))
-}
-
-/// Then the second, with two values in place of all others.
-fn gives_second(decoder: &mut Decoder<'_>, values: &mut Vec<FieldValue>) -> Result<bool, Fail> {
-    let is_second = is_head(next_owned(decoder, values)?, 257, 5_001);
-    let two = [FieldValue::Varint(7), FieldValue::Bool(true)];
-    Ok(is_second && values.as_slice() == two.as_slice() && is_at_second(decoder))
-}
-
-/// Then the third, with one.
-fn gives_third(decoder: &mut Decoder<'_>, values: &mut Vec<FieldValue>) -> Result<bool, Fail> {
-    let is_third = is_head(next_owned(decoder, values)?, 256, 2);
+    let (id, time, headers, place, known) = row;
+    let is_next = is_head(next_owned(decoder, values)?, id, time);
+    let is_placed = Decoder::position(decoder) == place.1 && decoder.headers() == headers;
     Ok(
-        is_third
-            && values.as_slice() == [FieldValue::Varint(300)].as_slice()
-            && is_at_third(decoder),
+        is_next
+            && is_placed
+            && knows(decoder, known)
+            && are_values(alloc, decoder, id, values, place)?,
     )
 }
 
@@ -196,15 +145,16 @@ fn gives_none(decoder: &mut Decoder<'_>, values: &mut Vec<FieldValue>) -> Result
     )
 }
 
+/// The list keeps the room that it has after the first event, which has the most values.
 #[test]
 fn values_of_each_kind_into_one_list(rt: HostRuntime) -> Result<(), Fail> {
     let mut decoder = decoder_of(rt.alloc(), &TRACE)?;
     let mut values = Vec::new(rt.alloc());
-    assert!(rt; gives_first(rt.alloc(), &mut decoder, &mut values)?);
-    let room = values.capacity();
-    assert!(rt;
-        gives_second(&mut decoder, &mut values)? && gives_third(&mut decoder, &mut values)?
-    );
+    let mut room = 0;
+    for row in EVENTS {
+        assert!(rt; gives(rt.alloc(), &mut decoder, &mut values, row)?);
+        room = if room == 0 { values.capacity() } else { room };
+    }
     assert!(rt; gives_none(&mut decoder, &mut values)? && values.capacity() == room);
     Ok(())
 }

@@ -100,24 +100,30 @@ fn pulls_others(alloc: Global, decoder: &mut FeedDecoder, count: usize) -> Resul
     Ok(true)
 }
 
+/// After so many other frames comes an event, which resolves to one that begins so.
+fn pulls_event(
+    alloc: Global,
+    decoder: &mut FeedDecoder,
+    others: usize,
+    name: &str,
+    text: &str,
+) -> Result<DecodedFrame, Fail> {
+    let is_after = pulls_others(alloc, decoder, others)?;
+    let event = pulled(decoder)?;
+    if is_after && resolves_to(alloc, decoder, &event, name, text)? {
+        return Ok(event);
+    }
+    Err(Fail::from("another event"))
+}
+
 /// An event is resolved by what the decoder knows now: the first one, after the second header, by no stack.
 fn tells_by_now(alloc: Global) -> Result<bool, Fail> {
     let mut decoder = FeedDecoder::new(alloc);
     decoder.push(&JOINED)?;
-    let others = pulls_others(alloc, &mut decoder, 3)?;
-    let first = pulled(&mut decoder)?;
-    let as_it_stood = resolves_to(alloc, &decoder, &first, "s", "one")?;
-    let later = pulls_others(alloc, &mut decoder, 2)?;
-    let second = pulled(&mut decoder)?;
-    let late = decoder.resolve(&first, alloc).err();
-    let none = Some(DeserError::UnknownStack(InternedStackFrames::from_raw(0)));
-    Ok(
-        others
-            && as_it_stood
-            && later
-            && late == none
-            && resolves_to(alloc, &decoder, &second, "t", "two")?,
-    )
+    let first = pulls_event(alloc, &mut decoder, 3, "s", "one")?;
+    pulls_event(alloc, &mut decoder, 2, "t", "two")?;
+    let none = DeserError::UnknownStack(InternedStackFrames::from_raw(0));
+    Ok(decoder.resolve(&first, alloc).err() == Some(none))
 }
 
 #[test]

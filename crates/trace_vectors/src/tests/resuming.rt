@@ -1,7 +1,7 @@
 //! Encoders that go on after readers in turn and after writers that fail.
 
 use crate::tests::calls::{decoder_of, into_encoder, put_one};
-use crate::tests::checks::{check_bytes, check_number, check_refused, count_all, reads_all};
+use crate::tests::checks::{check_bytes, check_number, check_refused};
 use crate::tests::mixed::{gives_borrowed, gives_event, gives_owned, shows_refused};
 use crate::tests::told::{breaking, check_told, stepping};
 use crate::tests::traces::{ONE_EVENT, THREE_EVENTS, ev, one_field};
@@ -58,54 +58,6 @@ fn encoder_to(alloc: Global, manner: Manner) -> Result<Encoder<Told>, EncodeErro
 fn put_event(alloc: Global, encoder: &mut Encoder<Told>) -> Result<(), EncodeError> {
     let schema = ev(alloc)?;
     encoder.write_event(&schema, 1_000, &[FieldValue::Varint(42)])
-}
-
-/// The writer that failed inside that event.
-fn torn(rt: &impl Abort, alloc: Global) -> Result<Told, EncodeError> {
-    let manner = breaking(3, 22, Fault::Error(ErrorKind::BrokenPipe));
-    let mut broken = encoder_to(alloc, manner)?;
-    let fault = put_event(alloc, &mut broken).err();
-    check_refused(rt, fault, EncodeError::Writer(ErrorKind::BrokenPipe));
-    Ok(broken.into_inner())
-}
-
-/// A decoder that gave the schema of a torn trace, and no more.
-fn decoder_after_schema<'a>(
-    rt: &impl Abort,
-    alloc: Global,
-    bytes: &'a [u8],
-) -> Result<Decoder<'a>, Fail> {
-    let mut decoder = decoder_of(alloc, bytes)?;
-    assert!(rt; count_all(&mut decoder)? == 1);
-    assert!(rt; decoder.position() == 19);
-    Ok(decoder)
-}
-
-/// An encoder that goes on after that schema, which its writer has already.
-fn encoder_after_schema(rt: &impl Abort, alloc: Global, bytes: &[u8]) -> Result<Encoder, Fail> {
-    let before = Vec::from_slice(alloc, &ONE_EVENT[..19])?;
-    let decoder = decoder_after_schema(rt, alloc, bytes)?;
-    Ok(decoder.into_encoder(before)?)
-}
-
-/// What its writer has after an event of `Ev` at 2,000 with 2.
-fn mended(rt: &impl Abort, alloc: Global, bytes: &[u8]) -> Result<Vec<u8>, Fail> {
-    let schema = ev(alloc)?;
-    let mut encoder = encoder_after_schema(rt, alloc, bytes)?;
-    put_one(&mut encoder, &schema, 2_000, FieldValue::Varint(2))?;
-    Ok(encoder.finish())
-}
-
-/// The writer fails inside the event: what is left whole is the schema, under which the next encoder writes.
-#[test]
-fn goes_on_after_a_torn_trace(rt: HostRuntime) -> Result<(), Fail> {
-    let torn = torn(&rt, rt.alloc())?;
-    assert!(rt; torn.bytes().len() == 22);
-    let whole = mended(&rt, rt.alloc(), torn.bytes())?;
-    assert!(rt; reads_all(rt.alloc(), &whole, 2, 26)?);
-    let sent = [0x02, 0x00, 0x01, 0xD0, 0x07, 0x00, 0x02];
-    assert!(rt; whole.get(19..) == Some(sent.as_slice()));
-    Ok(())
 }
 
 /// The encoder fails at the schema, and has then failed.

@@ -20,6 +20,11 @@ pub const AN_EVENT: [u8; 6] = [2, 0, 1, 0, 0, 0];
 /// Ten bytes after which a number goes on.
 const ENDLESS: [u8; 10] = [0xFF; 10];
 
+/// Annotations whose wire id is such a number.
+const ENDLESS_NOTES: [u8; 11] = [
+    0x06, 0xFF, 0xFF, 0xFF, 0xFF, 0xFF, 0xFF, 0xFF, 0xFF, 0xFF, 0xFF,
+];
+
 /// Frames that stand whole, and then bytes of which no frame comes; why not, and where the last of these bytes shows
 /// that, from the first of the latter on.
 type Row = (&'static [u8], &'static [u8], DecodeErrorKind, usize);
@@ -98,14 +103,27 @@ const ROWS: [Row; 12] = [
     ),
 ];
 
-/// Takes all frames that are whole.
-fn pull_all(decoder: &mut FeedDecoder) -> Result<(), Fail> {
+/// Takes these bytes, and all frames that are whole.
+fn push(decoder: &mut FeedDecoder, bytes: &[u8]) -> Result<(), Fail> {
+    decoder.push(bytes)?;
     for _ in 0..10 {
         if decoder.next_frame()?.is_none() {
             return Ok(());
         }
     }
     Err("frames without an end")?
+}
+
+/// A decoder that took these bytes, of which frames may come.
+fn waiting(alloc: Global, parts: &[&[u8]]) -> Result<FeedDecoder, Fail> {
+    let mut decoder = FeedDecoder::new(alloc);
+    for part in parts {
+        push(&mut decoder, part)?;
+    }
+    if decoder.stuck().is_some() {
+        return Err(Fail::from("no frame may come"));
+    }
+    Ok(decoder)
 }
 
 /// The decoder works, and tells that no frame comes, for this reason and here.
@@ -125,20 +143,14 @@ fn shows_at_last(
     place: usize,
 ) -> Result<bool, Fail> {
     let (last, front) = cut.split_last().ok_or("no bytes")?;
-    let mut decoder = FeedDecoder::new(alloc);
-    decoder.push(&HEADER)?;
-    decoder.push(whole)?;
-    decoder.push(front)?;
-    pull_all(&mut decoder)?;
-    if decoder.stuck().is_some() {
-        return Ok(false);
+    let mut decoder = waiting(alloc, &[&HEADER, whole, front])?;
+    for piece in [&[*last][..], &[0; 100]] {
+        push(&mut decoder, piece)?;
+        if !sticks(&decoder, kind, place) {
+            return Ok(false);
+        }
     }
-    decoder.push(&[*last])?;
-    pull_all(&mut decoder)?;
-    let first = sticks(&decoder, kind, place);
-    decoder.push(&[0; 100])?;
-    pull_all(&mut decoder)?;
-    Ok(first && sticks(&decoder, kind, place))
+    Ok(true)
 }
 
 /// The same, fed byte by byte.
@@ -201,26 +213,10 @@ fn event_of(alloc: Global, field: &[u8]) -> Result<Vec<u8>, AllocError> {
 #[test]
 fn numbers_without_an_end(rt: HostRuntime) -> Result<(), Fail> {
     let event = event_of(rt.alloc(), &ENDLESS)?;
-    assert!(rt;
-        shows(
-            rt.alloc(),
-            &NUMBERS,
-            event.as_slice(),
-            DecodeErrorKind::TruncatedValue,
-            6
-        )?
-    );
-    let mut notes = vec![in rt.alloc(); 6]?;
-    notes.extend_from_slice(&ENDLESS)?;
-    assert!(rt;
-        shows(
-            rt.alloc(),
-            &[],
-            notes.as_slice(),
-            DecodeErrorKind::NoFrame(6),
-            1
-        )?
-    );
+    let kind = DecodeErrorKind::TruncatedValue;
+    assert!(rt; shows(rt.alloc(), &NUMBERS, event.as_slice(), kind, 6)?);
+    let kind = DecodeErrorKind::NoFrame(6);
+    assert!(rt; shows(rt.alloc(), &[], &ENDLESS_NOTES, kind, 1)?);
     Ok(())
 }
 
@@ -236,17 +232,9 @@ fn deep(alloc: Global, lists: usize) -> Result<Vec<u8>, AllocError> {
 
 #[test]
 fn lists_too_deep(rt: HostRuntime) -> Result<(), Fail> {
-    let field = deep(rt.alloc(), 33)?;
-    let event = event_of(rt.alloc(), field.as_slice())?;
-    assert!(rt;
-        shows(
-            rt.alloc(),
-            &LISTS,
-            event.as_slice(),
-            DecodeErrorKind::TruncatedValue,
-            166
-        )?
-    );
+    let event = event_of(rt.alloc(), &deep(rt.alloc(), 33)?)?;
+    let kind = DecodeErrorKind::TruncatedValue;
+    assert!(rt; shows(rt.alloc(), &LISTS, event.as_slice(), kind, 166)?);
     Ok(())
 }
 
@@ -254,10 +242,7 @@ fn lists_too_deep(rt: HostRuntime) -> Result<(), Fail> {
 #[test]
 fn whole_traces_do_not_stick(rt: HostRuntime) -> Result<(), Fail> {
     for cut in 0..ONE_EVENT.len() {
-        let mut decoder = FeedDecoder::new(rt.alloc());
-        decoder.push(&ONE_EVENT[..cut])?;
-        pull_all(&mut decoder)?;
-        assert!(rt; decoder.stuck().is_none());
+        waiting(rt.alloc(), &[&ONE_EVENT[..cut]])?;
     }
     Ok(())
 }

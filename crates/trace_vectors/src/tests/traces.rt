@@ -2,7 +2,7 @@
 
 use dial9_trace_format::encoder::Schema;
 use dial9_trace_format::schema::FieldDef;
-use dial9_trace_format::types::{FieldType, FieldValue};
+use dial9_trace_format::types::FieldType;
 use std::alloc::{AllocError, Global};
 
 /// A header.
@@ -52,19 +52,4 @@ pub fn one_field(
 /// The schema `Ev`.
 pub fn ev(alloc: Global) -> Result<Schema, AllocError> {
     one_field(alloc, "Ev", "v", FieldType::Varint)
-}
-
-/// So many lists, one in the other; the innermost is empty or holds a number.
-pub fn nested_lists(alloc: Global, depth: usize, filled: bool) -> Result<FieldValue, AllocError> {
-    let mut items = Vec::new(alloc);
-    if filled {
-        items.push(FieldValue::Varint(1))?;
-    }
-    let mut value = FieldValue::List(items);
-    for _ in 1..depth {
-        let mut outer = Vec::new(alloc);
-        outer.push(value)?;
-        value = FieldValue::List(outer);
-    }
-    Ok(value)
 }

@@ -3,12 +3,12 @@
 
 use crate::tests::ample::events::{absent, event, event_of};
 use crate::tests::ample::schemas::fields;
-use crate::tests::ample::{COUNTS, MILLION, SIZED, SIZES, value};
+use crate::tests::ample::{COUNTS, MILLION, SIZED, SIZES, spelled};
 use crate::tests::sinks::is_error;
-use crate::tests::traces::{ONE_EVENT, nested_lists};
+use crate::tests::traces::ONE_EVENT;
 use dial9_trace_format::decoder::{DecodeErrorKind, FeedDecoder};
-use dial9_trace_format::types::{FieldType, FieldValue};
-use std::alloc::Global;
+use dial9_trace_format::types::FieldType;
+use std::alloc::{AllocError, Global};
 use std::process::Abort;
 use std::test::Fail;
 
@@ -45,18 +45,18 @@ fn check_cut(
     Ok(())
 }
 
-/// The cause of an event of this value that is cut lies where the value begins: of a field, and of one of the optional
-/// type.
+/// The cause of an event of a value of this spelling that is cut lies where the value begins: of a field, and of one of
+/// the optional type.
 fn check_value(
     rt: &impl Abort,
     alloc: Global,
     field_type: FieldType,
-    value: FieldValue,
+    value: &[u8],
 ) -> Result<(), Fail> {
-    let values = [value];
-    let plain = event(alloc, field_type, &values)?;
+    let plain = event(alloc, field_type, value)?;
     check_cut(rt, alloc, &plain, DecodeErrorKind::TruncatedValue, 24)?;
-    let optional = event(alloc, field_type.optional(), &values)?;
+    let mut optional = event(alloc, field_type.optional(), &[1])?;
+    optional.extend_from_slice(value)?;
     check_cut(rt, alloc, &optional, DecodeErrorKind::TruncatedOptional, 25)
 }
 
@@ -67,8 +67,7 @@ fn check_size(
     field_type: FieldType,
     size: usize,
 ) -> Result<(), Fail> {
-    let value = value(alloc, field_type, size)?;
-    check_value(rt, alloc, field_type, value)
+    check_value(rt, alloc, field_type, &spelled(alloc, field_type, size)?)
 }
 
 #[test]
@@ -89,11 +88,21 @@ fn values_of_a_million(rt: HostRuntime) -> Result<(), Fail> {
     Ok(())
 }
 
+/// The spelling of so many lists, one in the other, the innermost of which is empty.
+pub fn lists(alloc: Global, depth: usize) -> Result<Vec<u8>, AllocError> {
+    let mut bytes = Vec::new(alloc);
+    for _ in 1..depth {
+        bytes.extend_from_slice(&[1, 0, 0, 0, 14])?;
+    }
+    bytes.extend_from_slice(&[0; 4])?;
+    Ok(bytes)
+}
+
 #[test]
 fn values_at_each_depth(rt: HostRuntime) -> Result<(), Fail> {
     for depth in 1..=33 {
-        let lists = nested_lists(rt.alloc(), depth, false)?;
-        check_value(&rt, rt.alloc(), FieldType::DynamicList, lists)?;
+        let lists = lists(rt.alloc(), depth)?;
+        check_value(&rt, rt.alloc(), FieldType::DynamicList, &lists)?;
     }
     Ok(())
 }

@@ -1,19 +1,21 @@
 //! Many events of one type.
 
 use crate::tests::ample::traces::check_trace;
-use crate::tests::calls::{fresh, put};
-use dial9_trace_format::leb128::EncodeError;
-use std::alloc::Global;
+use std::alloc::{AllocError, Global};
 use std::test::Fail;
-use trace_samples::events::FastSlot;
 
-/// What an encoder writes for so many events.
-fn events(alloc: Global, count: usize) -> Result<Vec<u8>, EncodeError> {
-    let mut encoder = fresh(alloc)?;
+/// A header, and the schema `E` without fields under wire id 5, whose events have times.
+const BEFORE_EVENTS: [u8; 14] = [
+    0x54, 0x52, 0x43, 0x00, 0x01, 0x01, 0x05, 0x00, 0x01, 0x00, b'E', 0x01, 0x00, 0x00,
+];
+
+/// A trace of so many events of it, at 0.
+fn events(alloc: Global, count: usize) -> Result<Vec<u8>, AllocError> {
+    let mut bytes = Vec::from_slice(alloc, &BEFORE_EVENTS)?;
     for _ in 0..count {
-        put(&mut encoder, &FastSlot { time: 0 })?;
+        bytes.extend_from_slice(&[2, 5, 0, 0, 0, 0])?;
     }
-    Ok(encoder.finish())
+    Ok(bytes)
 }
 
 #[test]

@@ -3,10 +3,9 @@
 
 use crate::tests::ample::schemas::fields;
 use crate::tests::ample::traces::check_trace;
-use crate::tests::ample::{COUNTS, MILLION, SIZED, SIZES, spelled_length, text, value};
+use crate::tests::ample::{COUNTS, MILLION, SIZED, SIZES, spelled, text};
 use crate::tests::calls::{fresh, put_event, register_new, run};
 use crate::tests::frames::EACH_KIND;
-use crate::tests::traces::one_definition;
 use dial9_trace_format::encoder::{Call, Encoder, Reply};
 use dial9_trace_format::leb128::EncodeError;
 use dial9_trace_format::schema::FieldDef;
@@ -36,27 +35,29 @@ pub fn event_of(
     Ok(encoder.finish())
 }
 
-/// The same of one field, of this type.
-pub fn event(
-    alloc: Global,
-    field_type: FieldType,
-    values: &[FieldValue],
-) -> Result<Vec<u8>, EncodeError> {
-    let fields = one_definition(alloc, "f", field_type)?;
-    event_of(alloc, fields, values)
+/// A header, the schema `K` with the field `f` of a type, and the tag, the wire id and the delta 0 of an event.
+const BEFORE_VALUE: [u8; 24] = [
+    0x54, 0x52, 0x43, 0x00, 0x01, 0x01, 0x00, 0x01, 0x01, 0x00, b'K', 0x01, 0x01, 0x00, 0x01, 0x00,
+    b'f', 0x00, 0x02, 0x00, 0x01, 0x00, 0x00, 0x00,
+];
+
+/// A trace of an event of a value of the type that is spelled so.
+pub fn event(alloc: Global, field_type: FieldType, value: &[u8]) -> Result<Vec<u8>, AllocError> {
+    let mut bytes = BEFORE_VALUE;
+    bytes[17] = field_type.tag();
+    let mut trace = Vec::from_slice(alloc, &bytes)?;
+    trace.extend_from_slice(value)?;
+    Ok(trace)
 }
 
-/// An event of a value of this size is written and read.
+/// An event of a value of this size is read. `tools/ample` has it written.
 fn check_sized(
     rt: &impl Abort,
     alloc: Global,
     field_type: FieldType,
     size: usize,
 ) -> Result<(), Fail> {
-    let values = [value(alloc, field_type, size)?];
-    let bytes = event(alloc, field_type, &values)?;
-    let length = spelled_length(field_type, size).saturating_add(24);
-    assert!(rt; bytes.len() as u64 == length);
+    let bytes = event(alloc, field_type, &spelled(alloc, field_type, size)?)?;
     check_trace(rt, alloc, &bytes, 2)
 }
 

@@ -25,7 +25,8 @@ fn is_resolved(alloc: Global, decoder: &FeedDecoder, frame: &DecodedFrame) -> Re
     Ok(resolved == matches!(frame, DecodedFrame::Event { .. }))
 }
 
-/// Pushed in pieces of this length and pulled one by one, a decoder gives these frames, and resolves the events.
+/// Pushed in pieces of this length and pulled one by one, a decoder gives these frames, to the end, and resolves the
+/// events.
 pub fn is_pulled(
     alloc: Global,
     bytes: &[u8],
@@ -37,7 +38,7 @@ pub fn is_pulled(
     for piece in bytes.chunks(length.max(1)) {
         decoder.push(piece)?;
         for _ in 0..=bytes.len() {
-            let Some(frame) = decoder.next_frame()? else {
+            let Ok(Some(frame)) = decoder.next_frame() else {
                 break;
             };
             if wanted.next() != Some(&frame) || !is_resolved(alloc, &decoder, &frame)? {

@@ -50,7 +50,7 @@ fn is_written(alloc: Global, value: &FieldValue) -> Result<bool, Fail> {
 }
 
 /// The field of the optional type has these bytes after one of presence.
-fn is_optional(
+pub fn is_optional(
     alloc: Global,
     field_type: FieldType,
     value: &FieldValue,
@@ -105,16 +105,20 @@ fn absent_fields(rt: HostRuntime) -> Result<(), Fail> {
     Ok(())
 }
 
-/// An absent field of each type that has an own call.
+/// Writes an absent field of each type that has an own call, and a present one.
+fn write_none(encoder: &mut EventEncoder<'_>) -> Result<(), EncodeError> {
+    None::<u8>.encode(encoder)?;
+    None::<u64>.encode(encoder)?;
+    None::<bool>.encode(encoder)?;
+    None::<String>.encode(encoder)?;
+    None::<Vec<u8>>.encode(encoder)?;
+    Some(F64Bits(1)).encode(encoder)
+}
+
+/// What that writes.
 fn none_of_each(alloc: Global) -> Result<Vec<u8>, EncodeError> {
     let mut out = Vec::new(alloc);
-    let mut encoder = EventEncoder::new(&mut out);
-    None::<u8>.encode(&mut encoder)?;
-    None::<u64>.encode(&mut encoder)?;
-    None::<bool>.encode(&mut encoder)?;
-    None::<String>.encode(&mut encoder)?;
-    None::<Vec<u8>>.encode(&mut encoder)?;
-    Some(F64Bits(1)).encode(&mut encoder)?;
+    write_none(&mut EventEncoder::new(&mut out))?;
     Ok(out)
 }
 

@@ -1,63 +1,42 @@
 //! Values that have a size.
 
-use crate::tests::ample::numbers::field;
-use crate::tests::ample::{MILLION, SIZED, SIZES, pairs_of_texts, spelled_length, text, value};
+use crate::tests::ample::numbers::{field, is_optional};
+use crate::tests::ample::{MILLION, SIZED, SIZES, read_value, spelled, text};
 use crate::tests::calls::encoded;
 use crate::tests::read_values::check_read;
 use crate::tests::written_values::{write_ids, write_numbers};
 use dial9_trace_format::leb128::EncodeError;
 use dial9_trace_format::types::{EventEncoder, FieldType, FieldValue, StackFrames};
-use std::alloc::Global;
+use std::alloc::{AllocError, Global};
 use std::process::Abort;
 use std::test::Fail;
 
-/// The value has so many bytes by its own kind, and both readers read it.
-fn check_sized(
-    rt: &impl Abort,
+/// The value is spelled so by its own kind, as a field of the type, and after one byte of presence as one of its
+/// optional type.
+fn is_spelled(
     alloc: Global,
     field_type: FieldType,
     value: &FieldValue,
-    length: u64,
-) -> Result<(), Fail> {
-    let bytes = encoded(alloc, value)?;
-    assert!(rt; bytes.len() as u64 == length);
-    check_read(rt, alloc, field_type, &bytes, value)
+    bytes: &[u8],
+) -> Result<bool, Fail> {
+    Ok(
+        encoded(alloc, value)?.as_slice() == bytes
+            && field(alloc, field_type, value)?.as_slice() == bytes
+            && is_optional(alloc, field_type, value, bytes)?,
+    )
 }
 
-/// The value has so many bytes as a field of the type, and one more as one of its optional type.
-fn check_field(
-    rt: &impl Abort,
-    alloc: Global,
-    field_type: FieldType,
-    value: &FieldValue,
-    length: u64,
-) -> Result<(), Fail> {
-    let plain = count_of_field(alloc, field_type, value)?;
-    let optional = count_of_field(alloc, field_type.optional(), value)?;
-    assert!(rt; plain == length && optional == length.saturating_add(1));
-    Ok(())
-}
-
-/// How many bytes the value has as a field of this type.
-fn count_of_field(
-    alloc: Global,
-    field_type: FieldType,
-    value: &FieldValue,
-) -> Result<u64, EncodeError> {
-    Ok(field(alloc, field_type, value)?.len() as u64)
-}
-
-/// The value of this size is made, spelled and read, and written as a field.
+/// The value of this size is spelled and read.
 fn check_value(
     rt: &impl Abort,
     alloc: Global,
     field_type: FieldType,
     size: usize,
 ) -> Result<(), Fail> {
-    let value = value(alloc, field_type, size)?;
-    let length = spelled_length(field_type, size);
-    check_sized(rt, alloc, field_type, &value, length)?;
-    check_field(rt, alloc, field_type, &value, length)
+    let bytes = spelled(alloc, field_type, size)?;
+    let value = read_value(alloc, field_type, &bytes)?;
+    assert!(rt; is_spelled(alloc, field_type, &value, &bytes)?);
+    check_read(rt, alloc, field_type, &bytes, &value)
 }
 
 #[test]
@@ -78,13 +57,17 @@ fn values_of_a_million(rt: HostRuntime) -> Result<(), Fail> {
     Ok(())
 }
 
+/// Writes a text, and its bytes.
+fn write_twice(encoder: &mut EventEncoder<'_>, text: &str) -> Result<(), EncodeError> {
+    encoder.write_string(text)?;
+    encoder.write_bytes(text.as_bytes())
+}
+
 /// A text and bytes of this size, written by their own calls.
 fn texts_and_bytes(alloc: Global, size: usize) -> Result<Vec<u8>, EncodeError> {
     let text = text(alloc, size)?;
     let mut out = Vec::new(alloc);
-    let mut encoder = EventEncoder::new(&mut out);
-    encoder.write_string(text.as_str())?;
-    encoder.write_bytes(text.as_str().as_bytes())?;
+    write_twice(&mut EventEncoder::new(&mut out), text.as_str())?;
     Ok(out)
 }
 
@@ -97,6 +80,16 @@ fn addresses(alloc: Global, size: usize) -> Result<Vec<u8>, EncodeError> {
     Ok(out)
 }
 
+/// So many pairs of empty texts, for a field of their type.
+fn pairs_of_texts(alloc: Global, count: usize) -> Result<Vec<(String, String)>, AllocError> {
+    let mut pairs = Vec::new(alloc);
+    for _ in 0..count {
+        let pair = (String::new(alloc), String::new(alloc));
+        pairs.push(pair)?;
+    }
+    Ok(pairs)
+}
+
 /// Pairs of texts, written by their own call.
 fn texts_by_texts(alloc: Global, count: usize) -> Result<Vec<u8>, EncodeError> {
     let pairs = pairs_of_texts(alloc, count)?;
@@ -105,23 +98,40 @@ fn texts_by_texts(alloc: Global, count: usize) -> Result<Vec<u8>, EncodeError> {
     Ok(out)
 }
 
-/// The calls of this size write what docs/FORMAT.md says of their length.
-fn check_calls(rt: &impl Abort, alloc: Global, size: usize) -> Result<(), Fail> {
-    let text = spelled_length(FieldType::String, size);
-    assert!(rt; texts_and_bytes(alloc, size)?.len() as u64 == text.saturating_mul(2));
-    let stack = spelled_length(FieldType::StackFrames, size);
-    assert!(rt; addresses(alloc, size)?.len() as u64 == stack);
-    let pairs = spelled_length(FieldType::StringMap, size);
-    assert!(rt; texts_by_texts(alloc, size.min(1_000_000))?.len() as u64 == pairs);
-    Ok(())
+/// The text and the bytes are spelled one after the other.
+fn are_twice(alloc: Global, size: usize) -> Result<bool, EncodeError> {
+    let both = texts_and_bytes(alloc, size)?;
+    let one = spelled(alloc, FieldType::String, size)?;
+    match both.as_slice().split_at_checked(one.len()) {
+        Some((first, second)) => Ok(first == one.as_slice() && second == one.as_slice()),
+        None => Ok(false),
+    }
+}
+
+/// The value of a text of this size, made by its own call, is spelled so.
+fn is_made(alloc: Global, size: usize) -> Result<bool, EncodeError> {
+    let value = FieldValue::string(alloc, text(alloc, size)?.as_str())?;
+    Ok(encoded(alloc, &value)? == spelled(alloc, FieldType::String, size)?)
+}
+
+/// The calls of this size write what docs/FORMAT.md says.
+fn are_called(alloc: Global, size: usize) -> Result<bool, EncodeError> {
+    let pairs = texts_by_texts(alloc, size.min(1_000_000))?;
+    Ok(
+        are_twice(alloc, size)?
+            && is_made(alloc, size)?
+            && addresses(alloc, size)? == spelled(alloc, FieldType::StackFrames, size)?
+            && pairs == spelled(alloc, FieldType::StringMap, size)?,
+    )
 }
 
 #[test]
 fn calls_of_each_size(rt: HostRuntime) -> Result<(), Fail> {
     for size in SIZES {
-        check_calls(&rt, rt.alloc(), size)?;
+        assert!(rt; are_called(rt.alloc(), size)?);
     }
-    check_calls(&rt, rt.alloc(), MILLION)
+    assert!(rt; are_called(rt.alloc(), MILLION)?);
+    Ok(())
 }
 
 /// So many fields of each call that has no size, one after another.

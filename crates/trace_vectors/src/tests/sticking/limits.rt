@@ -1,6 +1,6 @@
 //! Counts past their limit and values that lie too deep, of which no frame comes.
 
-use crate::tests::sticking::{AN_EVENT, NUMBERS, shows};
+use crate::tests::sticking::{NUMBERS, event_of, shows};
 use crate::tests::traces::HEADER;
 use dial9_trace_format::decoder::{DecodeErrorKind, FeedDecoder};
 use std::alloc::{AllocError, Global};
@@ -73,14 +73,6 @@ fn schema_of(tag: u8) -> [u8; 14] {
     let mut schema = NUMBERS;
     schema[13] = tag;
     schema
-}
-
-/// An event of these bytes after its delta.
-fn event_of(alloc: Global, field: &[u8]) -> Result<Vec<u8>, AllocError> {
-    let mut bytes = Vec::new(alloc);
-    bytes.extend_from_slice(&AN_EVENT)?;
-    bytes.extend_from_slice(field)?;
-    Ok(bytes)
 }
 
 /// With the last byte no frame comes of the event, by its field, which shows here.

@@ -1,8 +1,8 @@
 //! Worked traces, and what is cut out of them, by hand after docs/FORMAT.md.
 
-use crate::cut::{cut_of, send_cut};
-use crate::range::TimeRange;
 use std::test::Fail;
+use trace_cuts::cut::{cut_of, send_cut};
+use trace_cuts::range::TimeRange;
 
 /// Schema `TS`, and events at 100,000, 50,000, 200,000,000 and 100,000,000, three of them after a reset.
 const FOUR_TIMES: [u8; 74] = [

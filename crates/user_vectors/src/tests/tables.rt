@@ -2,15 +2,15 @@
 
 mod ample;
 
-use crate::cells::{put_event, put_owned_event};
-use crate::columns::put_columns;
-use crate::files::table_name;
-use crate::manifest::manifest_text;
-use crate::tables::push_table;
 use csv::{ByteRecord, Writer, WriterBuilder};
 use dial9_trace_format::decoder::{Decoder, EventSink, FeedDecoder, RawEvent};
 use std::alloc::Global;
 use std::test::Fail;
+use trace_csv::cells::{put_event, put_owned_event};
+use trace_csv::columns::put_columns;
+use trace_csv::files::table_name;
+use trace_csv::manifest::manifest_text;
+use trace_csv::tables::push_table;
 use trace_events::event::OwnedEvent;
 use trace_values::types::FieldType;
 use trace_wire::schema::{FieldDef, SchemaEntry};

@@ -2,23 +2,19 @@
 //! resets, and of names, fields and values of each size. The bytes that are wanted are spelled here after
 //! docs/FORMAT.md.
 
-use crate::tests::{COUNTS, SIZES, sized, text};
-use dial9_trace_format::decoder::Decoder;
-use dial9_trace_format::encoder::{Call, Encoder, Reply, Schema, run_calls};
+use crate::tests::ample::events::absent;
+use crate::tests::ample::schemas::fields;
+use crate::tests::ample::{COUNTS, MILLION, SIZED, SIZES, read_value, spelled, text};
+use crate::tests::calls::{fresh, into_encoder, read_out, run};
+use crate::tests::checks::reads_all;
+use crate::tests::traces::{HEADER, one_field};
+use dial9_trace_format::encoder::{Call, Encoder, Reply, Schema};
 use dial9_trace_format::leb128::EncodeError;
 use dial9_trace_format::schema::{FieldAnnotation, FieldDef, SchemaEntry, WireTypeId};
 use dial9_trace_format::types::{FieldType, FieldValue};
 use std::alloc::{AllocError, Global};
 use std::process::Abort;
 use std::test::Fail;
-
-/// A header.
-const HEADER: [u8; 5] = [0x54, 0x52, 0x43, 0x00, 0x01];
-
-/// `Encoder::new`.
-fn fresh(alloc: Global) -> Result<Encoder, EncodeError> {
-    Encoder::new(alloc)
-}
 
 /// `Encoder::register_at`.
 fn register(encoder: &mut Encoder, slot: u16, schema: &Schema) -> Result<u16, EncodeError> {
@@ -50,25 +46,6 @@ fn put_seven(
 /// `Encoder::reset_to`, of a new vector: what was written before.
 fn reset(alloc: Global, encoder: &mut Encoder) -> Result<Vec<u8>, EncodeError> {
     encoder.reset_to(Vec::new(alloc))
-}
-
-/// A schema of this name with one field.
-fn one_field(
-    alloc: Global,
-    name: &str,
-    field: &str,
-    field_type: FieldType,
-) -> Result<Schema, AllocError> {
-    let definition = FieldDef::new(alloc, field, field_type)?;
-    Schema::new(alloc, name, vec![in alloc; definition]?)
-}
-
-/// The trace is read to its end, as so many frames.
-fn check_trace(rt: &impl Abort, alloc: Global, bytes: &[u8], count: usize) -> Result<(), Fail> {
-    let mut decoder = Decoder::new(alloc, bytes).ok_or("no header")?;
-    assert!(rt; decoder.decode_all()?.len() == count);
-    assert!(rt; decoder.position() == bytes.len());
-    Ok(())
 }
 
 /// The schema `S` with the field `v` of one byte.
@@ -163,18 +140,28 @@ fn all_slots_after_a_reset(rt: HostRuntime) -> Result<(), Fail> {
     let wanted = all_slots_wanted(rt.alloc())?;
     assert!(rt; first.as_slice() == wanted.as_slice());
     assert!(rt; second.as_slice() == wanted.as_slice());
-    check_trace(&rt, rt.alloc(), &first, 765)
+    assert!(rt; reads_all(rt.alloc(), &first, 765, first.len())?);
+    Ok(())
+}
+
+/// Under each other slot the schema goes by its name, and an event of it is written.
+fn put_by_name(encoder: &mut Encoder, schema: &Schema) -> Result<bool, EncodeError> {
+    for slot in [256, 0, 300, 65_535] {
+        if register(encoder, slot, schema)? != 256 {
+            return Ok(false);
+        }
+        put_seven(encoder, slot, schema, 0)?;
+    }
+    Ok(true)
 }
 
 #[test]
 fn other_slots_go_by_the_name(rt: HostRuntime) -> Result<(), Fail> {
     let mut encoder = fresh(rt.alloc())?;
     let schema = schema(rt.alloc())?;
-    for slot in [256, 0, 300, 65_535] {
-        assert!(rt; register(&mut encoder, slot, &schema)? == 256);
-        put_seven(&mut encoder, slot, &schema, 0)?;
-    }
-    assert!(rt; register(&mut encoder, 255, &schema)? == 255);
+    assert!(rt;
+        put_by_name(&mut encoder, &schema)? && register(&mut encoder, 255, &schema)? == 255
+    );
     let event = event_frame(256, 0);
     let (by_name, by_slot) = (schema_frame(256), schema_frame(255));
     let frames: [&[u8]; 6] = [&by_name, &event, &event, &event, &event, &by_slot];
@@ -183,32 +170,44 @@ fn other_slots_go_by_the_name(rt: HostRuntime) -> Result<(), Fail> {
     Ok(())
 }
 
-/// The first is refused so, and so is an event.
-fn is_refused(
-    encoder: &mut Encoder,
-    slot: u16,
-    schema: &Schema,
-    error: EncodeError,
-) -> Result<bool, AllocError> {
-    let is_schema = register(encoder, slot, schema) == Err(error);
-    Ok(is_schema && put_seven(encoder, slot, schema, 0) == Err(error))
+/// The schema is refused so, and so is an event of it.
+fn is_refused(encoder: &mut Encoder, slot: u16, schema: &Schema, error: EncodeError) -> bool {
+    register(encoder, slot, schema) == Err(error)
+        && put_seven(encoder, slot, schema, 0) == Err(error)
+}
+
+/// Another schema of the name is refused, under its slot and by its name, and one whose name is too long.
+fn refuses_schemas(alloc: Global, encoder: &mut Encoder, slot: u16) -> Result<bool, AllocError> {
+    let other = one_field(alloc, "S", "w", FieldType::U8)?;
+    let long = one_field(alloc, text(alloc, 65_536)?.as_str(), "v", FieldType::U8)?;
+    Ok(
+        is_refused(encoder, slot, &other, EncodeError::SlotTaken)
+            && is_refused(encoder, 0, &other, EncodeError::Conflict)
+            && is_refused(encoder, slot ^ 1, &long, EncodeError::TooLong),
+    )
+}
+
+/// No value is refused, and one that is no byte.
+fn refuses_values(encoder: &mut Encoder, schema: &Schema, slot: u16) -> bool {
+    let misfit = Err(EncodeError::Misfit { field: 0 });
+    put(encoder, slot, schema, 0, &[]) == Err(EncodeError::ValueCount)
+        && put(encoder, slot, schema, 0, &[FieldValue::Varint(256)]) == misfit
+}
+
+/// An encoder that knows the schema under the slot and by its name.
+fn knowing(alloc: Global, schema: &Schema, slot: u16) -> Result<Encoder, EncodeError> {
+    let mut encoder = fresh(alloc)?;
+    register(&mut encoder, slot, schema)?;
+    register(&mut encoder, 0, schema)?;
+    Ok(encoder)
 }
 
 /// What is refused writes nothing.
 fn check_refusals(rt: &impl Abort, alloc: Global, slot: u16) -> Result<(), Fail> {
-    let mut encoder = fresh(alloc)?;
     let schema = schema(alloc)?;
-    let other = one_field(alloc, "S", "w", FieldType::U8)?;
-    let long = one_field(alloc, text(alloc, 65_536)?.as_str(), "v", FieldType::U8)?;
-    register(&mut encoder, slot, &schema)?;
-    register(&mut encoder, 0, &schema)?;
-    assert!(rt; is_refused(&mut encoder, slot, &other, EncodeError::SlotTaken)?);
-    assert!(rt; is_refused(&mut encoder, 0, &other, EncodeError::Conflict)?);
-    assert!(rt; is_refused(&mut encoder, slot ^ 1, &long, EncodeError::TooLong)?);
-    assert!(rt; put(&mut encoder, slot, &schema, 0, &[]) == Err(EncodeError::ValueCount));
-    let misfit = Err(EncodeError::Misfit { field: 0 });
-    let wide = [FieldValue::Varint(256)];
-    assert!(rt; put(&mut encoder, slot, &schema, 0, &wide) == misfit);
+    let mut encoder = knowing(alloc, &schema, slot)?;
+    assert!(rt; refuses_schemas(alloc, &mut encoder, slot)?);
+    assert!(rt; refuses_values(&mut encoder, &schema, slot));
     let wanted = trace_of(alloc, &[&schema_frame(slot), &schema_frame(256)])?;
     assert!(rt; encoder.finish().as_slice() == wanted.as_slice());
     Ok(())
@@ -229,19 +228,23 @@ const UNTIMED: [u8; 14] = [
 
 /// An encoder that goes on after it.
 fn after_untimed(alloc: Global) -> Result<Encoder, Fail> {
-    let mut decoder = Decoder::new(alloc, &UNTIMED).ok_or("no header")?;
-    let _frames = decoder.decode_all()?;
-    Ok(decoder.into_encoder(Vec::new(alloc))?)
+    let decoder = read_out(alloc, &UNTIMED)?;
+    Ok(into_encoder(alloc, decoder)?)
+}
+
+/// The schema without fields is refused under its slot, as its events have no time.
+fn is_untimed(encoder: &mut Encoder, untimed: &Schema) -> bool {
+    register(encoder, 9, untimed) == Err(EncodeError::SlotUntimed)
+        && put(encoder, 9, untimed, 0, &[]) == Err(EncodeError::SlotUntimed)
 }
 
 #[test]
 fn a_slot_without_times(rt: HostRuntime) -> Result<(), Fail> {
     let mut encoder = after_untimed(rt.alloc())?;
     let untimed = Schema::new(rt.alloc(), "A", Vec::new(rt.alloc()))?;
-    assert!(rt; register(&mut encoder, 9, &untimed) == Err(EncodeError::SlotUntimed));
-    assert!(rt; put(&mut encoder, 9, &untimed, 0, &[]) == Err(EncodeError::SlotUntimed));
+    assert!(rt; is_untimed(&mut encoder, &untimed));
     let schema = schema(rt.alloc())?;
-    assert!(rt; is_refused(&mut encoder, 9, &schema, EncodeError::SlotTaken)?);
+    assert!(rt; is_refused(&mut encoder, 9, &schema, EncodeError::SlotTaken));
     assert!(rt; register(&mut encoder, 8, &schema)? == 8);
     assert!(rt; encoder.finish().as_slice() == schema_frame(8).as_slice());
     Ok(())
@@ -301,65 +304,75 @@ fn event_of(
     Ok(encoder.finish())
 }
 
-/// A schema with a name of this size is registered, and an event of it is written.
-fn check_name(rt: &impl Abort, alloc: Global, size: usize) -> Result<(), Fail> {
+/// They make so many bytes, which are read.
+fn are_written(
+    alloc: Global,
+    slot: u16,
+    schema: &Schema,
+    values: &[FieldValue],
+    length: u64,
+) -> Result<bool, Fail> {
+    let bytes = event_of(alloc, slot, schema, values)?;
+    Ok(bytes.len() as u64 == length && reads_all(alloc, &bytes, 2, bytes.len())?)
+}
+
+/// A schema with a name of this size.
+fn is_named(alloc: Global, size: usize) -> Result<bool, Fail> {
     let schema = Schema::new(alloc, text(alloc, size)?.as_str(), Vec::new(alloc))?;
-    let bytes = event_of(alloc, 255, &schema, &[])?;
-    assert!(rt; bytes.len() == size.saturating_add(19));
-    check_trace(rt, alloc, &bytes, 2)
+    are_written(alloc, 255, &schema, &[], (size as u64).saturating_add(19))
 }
 
 #[test]
 fn names_under_a_slot(rt: HostRuntime) -> Result<(), Fail> {
     for size in COUNTS {
-        check_name(&rt, rt.alloc(), size)?;
+        assert!(rt; is_named(rt.alloc(), size)?);
     }
-    check_name(&rt, rt.alloc(), 65_535)
+    assert!(rt; is_named(rt.alloc(), 65_535)?);
+    Ok(())
 }
 
-/// So many fields of one byte, and their values.
-fn check_count(rt: &impl Abort, alloc: Global, count: usize) -> Result<(), Fail> {
-    let mut fields = Vec::new(alloc);
-    let mut values = Vec::new(alloc);
-    for _ in 0..count {
-        let field = FieldDef::new(alloc, "", FieldType::Bool)?;
-        fields.push(field)?;
-        values.push(FieldValue::Bool(true))?;
-    }
-    let schema = Schema::new(alloc, "", fields)?;
-    let bytes = event_of(alloc, 1, &schema, &values)?;
-    assert!(rt; bytes.len() == count.saturating_mul(4).saturating_add(19));
-    check_trace(rt, alloc, &bytes, 2)
+/// A schema of so many fields, which are absent.
+fn has_fields(alloc: Global, count: usize) -> Result<bool, Fail> {
+    let schema = Schema::new(alloc, "", fields(alloc, count, FieldType::OptionalU8)?)?;
+    let length = (count as u64).saturating_mul(4).saturating_add(19);
+    are_written(alloc, 1, &schema, &absent(alloc, count)?, length)
 }
 
 #[test]
 fn fields_under_a_slot(rt: HostRuntime) -> Result<(), Fail> {
     for count in COUNTS {
-        check_count(&rt, rt.alloc(), count)?;
+        assert!(rt; has_fields(rt.alloc(), count)?);
     }
-    check_count(&rt, rt.alloc(), 65_535)
+    assert!(rt; has_fields(rt.alloc(), 65_535)?);
+    Ok(())
 }
 
-/// A value of this size, whose items have so many bytes each.
-fn check_sized(
-    rt: &impl Abort,
-    alloc: Global,
-    field_type: FieldType,
-    size: usize,
-    width: usize,
-) -> Result<(), Fail> {
+/// A value of this size, under a slot that is the wire id, and by the name.
+fn is_sized(alloc: Global, field_type: FieldType, size: usize) -> Result<bool, Fail> {
     let schema = one_field(alloc, "K", "f", field_type)?;
-    let bytes = event_of(alloc, 128, &schema, &[sized(alloc, field_type, size)?])?;
-    assert!(rt; bytes.len() == size.saturating_mul(width).saturating_add(28));
-    check_trace(rt, alloc, &bytes, 2)
+    let spelled = spelled(alloc, field_type, size)?;
+    let values = [read_value(alloc, field_type, &spelled)?];
+    let length = (spelled.len() as u64).saturating_add(24);
+    Ok(
+        are_written(alloc, 128, &schema, &values, length)?
+            && are_written(alloc, 0, &schema, &values, length)?,
+    )
 }
 
 #[test]
 fn values_under_a_slot(rt: HostRuntime) -> Result<(), Fail> {
-    for size in SIZES {
-        check_sized(&rt, rt.alloc(), FieldType::String, size, 1)?;
-        check_sized(&rt, rt.alloc(), FieldType::Bytes, size, 1)?;
-        check_sized(&rt, rt.alloc(), FieldType::StackFrames, size, 8)?;
+    for field_type in SIZED {
+        for size in SIZES {
+            assert!(rt; is_sized(rt.alloc(), field_type, size)?);
+        }
+    }
+    Ok(())
+}
+
+#[test]
+fn values_of_a_million_under_a_slot(rt: HostRuntime) -> Result<(), Fail> {
+    for field_type in SIZED {
+        assert!(rt; is_sized(rt.alloc(), field_type, MILLION)?);
     }
     Ok(())
 }
@@ -378,7 +391,8 @@ fn many(alloc: Global, slot: u16) -> Result<Vec<u8>, EncodeError> {
 fn many_events_under_a_slot(rt: HostRuntime) -> Result<(), Fail> {
     let bytes = many(rt.alloc(), 3)?;
     assert!(rt; bytes.len() == 700_018);
-    check_trace(&rt, rt.alloc(), &bytes, 100_001)
+    assert!(rt; reads_all(rt.alloc(), &bytes, 100_001, 700_018)?);
+    Ok(())
 }
 
 /// Both calls under a slot, as data.
@@ -392,14 +406,17 @@ fn calls(alloc: Global, slot: u16) -> Result<Vec<Call>, AllocError> {
     Ok(calls)
 }
 
+/// They are answered.
+fn are_answered(alloc: Global, encoder: &mut Encoder, slot: u16) -> Result<bool, AllocError> {
+    let replies = run(alloc, encoder, &calls(alloc, slot)?)?;
+    Ok(replies.as_slice() == [Reply::WireId(WireTypeId(slot)), Reply::Done].as_slice())
+}
+
 #[test]
 fn calls_as_data_under_a_slot(rt: HostRuntime) -> Result<(), Fail> {
     for slot in 1..=255u16 {
         let mut encoder = fresh(rt.alloc())?;
-        let replies = run_calls(rt.alloc(), &mut encoder, &calls(rt.alloc(), slot)?)?;
-        assert!(rt;
-            replies.as_slice() == [Reply::WireId(WireTypeId(slot)), Reply::Done].as_slice()
-        );
+        assert!(rt; are_answered(rt.alloc(), &mut encoder, slot)?);
         let wanted = trace_of(rt.alloc(), &[&schema_frame(slot), &event_frame(slot, 5)])?;
         assert!(rt; encoder.finish().as_slice() == wanted.as_slice());
     }

@@ -1,10 +1,10 @@
 //! Traces written by hand after docs/FORMAT.md, and their lines as Python's `json` prints them.
 
-use crate::line::{push_event_line, push_owned_event_line};
 use dial9_trace_format::decoder::{Decoder, EventSink, FeedDecoder, RawEvent};
 use std::alloc::{AllocError, Global};
 use std::test::Fail;
 use trace_events::event::OwnedEvent;
+use trace_json::line::{push_event_line, push_owned_event_line};
 
 /// Traces in hexadecimal digits, each with the lines of its events.
 const ROWS: [(&str, &str); 10] = [

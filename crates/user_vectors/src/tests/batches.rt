@@ -1,7 +1,7 @@
 //! A worked trace and its batches, by hand after docs/FORMAT.md and docs/DOORS.md.
 
-use crate::{read_batch, record_batch};
 use std::test::Fail;
+use trace_batch::{read_batch, record_batch};
 
 /// Schema `Ev`, and events of it at 12,000,000 and 24,000,000, the second told from the first.
 const NEAR_TIMES: [u8; 33] = [

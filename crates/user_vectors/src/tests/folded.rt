@@ -1,12 +1,12 @@
 //! Stacks and their lines, worked out by hand after docs/FORMAT.md.
 
-use crate::stack::first_stack;
-use crate::tally::{FoldError, FoldedStacks};
 use dial9_trace_format::decoder::{Decoder, FeedDecoder};
 use dial9_trace_format::types::{FieldValue, InternedStackFrames};
 use std::alloc::Global;
 use std::test::Fail;
 use trace_events::event::OwnedEvent;
+use trace_folded::stack::first_stack;
+use trace_folded::tally::{FoldError, FoldedStacks};
 
 /// A stack pool: under 7 the addresses 0x10 and 0x20.
 const POOL: [u8; 34] = [

@@ -2,13 +2,13 @@
 
 mod ample;
 
-use crate::schema::SchemaStats;
-use crate::summary::Summary;
-use crate::trace::TraceStats;
 use dial9_trace_format::decoder::{Decoder, EventSink, RawEvent};
 use std::alloc::{AllocError, Global};
 use std::test::Fail;
 use trace_events::event::OwnedEvent;
+use trace_stats::schema::SchemaStats;
+use trace_stats::summary::Summary;
+use trace_stats::trace::TraceStats;
 use trace_values::types::FieldType;
 use trace_wire::schema::{FieldDef, SchemaEntry};
 

@@ -1,10 +1,10 @@
 //! The rules of docs/ROLES.md, over schemas made here.
 
-use crate::clock::clock_of;
-use crate::roles::{OF_SCHEMA, Shape, note_of, roles_of};
-use crate::units::{CounterKind, counter_of, nanoseconds_in, unit_of};
 use std::alloc::{AllocError, Global};
 use std::test::Fail;
+use trace_roles::clock::clock_of;
+use trace_roles::roles::{OF_SCHEMA, Shape, note_of, roles_of};
+use trace_roles::units::{CounterKind, counter_of, nanoseconds_in, unit_of};
 use trace_values::types::FieldType;
 use trace_wire::schema::{FieldAnnotation, FieldDef, SchemaEntry};
 

@@ -4,12 +4,9 @@
 ghost use Rattle.std.specs.Prelude.{[], ◌∷◌, refl, string_bytes};
 ghost use Rattle.dial9_trace_format.specs.Words.{constant_entry, number, integer, float, boolean, text};
 ghost use Rattle.dial9_trace_format.specs.Words.{pooled_text, pooled_stack, value_of_option};
-ghost use Rattle.trace_converter.specs.declared.tests.wide.TheConstants.{WIDE};
+ghost use Rattle.user_vectors.specs.declared.tests.wide.TheConstants.{WIDE};
 
-use crate::converter::Converter;
-use crate::rules::Rule;
-use crate::tests::told;
-use dial9_trace_format::decoder::Decoder;
+use crate::tests::conversions::converted;
 use dial9_trace_format::definition::Definition;
 use dial9_trace_format::encoder::Encoder;
 use dial9_trace_format::leb128::EncodeError;
@@ -19,6 +16,7 @@ use dial9_trace_format::{
 };
 use std::alloc::Global;
 use std::test::Fail;
+use trace_converter::rules::Rule;
 use trace_values::fields;
 
 const WIDE: Definition = (
@@ -262,9 +260,7 @@ const WANTED: [u8; 52] = [
 #[test]
 fn three_of_many_fields(rt: HostRuntime) -> Result<(), Fail> {
     let trace = trace(rt.alloc())?;
-    let mut decoder = Decoder::new(rt.alloc(), &trace).ok_or("no header")?;
-    let mut converter = Converter::new(rt.alloc(), &RULES, Encoder::new(rt.alloc())?);
-    told(decoder.try_for_each_event(&mut converter))?;
-    assert!(rt; converter.into_encoder().finish().as_slice() == WANTED.as_slice());
+    let (found, refused) = converted(rt.alloc(), &trace, &RULES)?;
+    assert!(rt; refused.is_none() && found.as_slice() == WANTED.as_slice());
     Ok(())
 }

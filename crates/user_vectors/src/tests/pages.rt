@@ -1,11 +1,11 @@
 //! The data of a page, against what tools/page makes of the same trace.
 
-use crate::data::PageData;
-use crate::escaping::push_escaped;
 use dial9_trace_format::decoder::FeedDecoder;
 use std::alloc::{AllocError, Global};
 use std::test::Fail;
 use trace_events::event::OwnedEvent;
+use trace_page::data::PageData;
+use trace_page::escaping::push_escaped;
 
 /// A trace in hexadecimal digits: two events of one stack, with sizes; two of a stack of the pool, one of them with a
 /// size below 0, and each with another size after it; one whose pool holds no stack; one without a stack; one without

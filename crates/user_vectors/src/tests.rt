@@ -1,0 +1,14 @@
+//! Worked examples of the crates over the library.
+
+mod batches;
+mod conversions;
+mod cuts;
+mod folded;
+mod fronts;
+mod lines;
+mod pages;
+mod roles;
+mod segments;
+mod statistics;
+mod tables;
+mod wide;
