@@ -10,6 +10,25 @@ use Rattle.trace_lines.proofs.value.+value.Goals as goal
 
 pub push_list-returns : goal.push_list-returns
 push_list-returns g t c =
+    let inside = join_by (λ v. value_text (shown_as c.args.form.now g.V.LineValue.value v)) (codes ",")
+    c.args.items.now in
+    part_not_put _ (codes "List:[") (inside ++ codes "]") _ g.met.L.GrowingLine.stops
+    (all_left g.L.GrowingLine.grows c.args.out.now
+    (sym (text_of_shown_list c.args.form.now g.V.LineValue.value c.args.items.now)))
+    refl c.in-Err-tri.ensures
+
+pub push_list-returns-2 : goal.push_list-returns-2
+push_list-returns-2 g t c =
+    let inside = join_by (λ v. value_text (shown_as c.args.form.now g.V.LineValue.value v)) (codes ",")
+    c.args.items.now in
+    let all = all_left g.L.GrowingLine.grows c.args.out.now
+    (sym (text_of_shown_list c.args.form.now g.V.LineValue.value c.args.items.now)) in
+    let first = part_put _ (codes "List:[") (inside ++ codes "]") g.met.L.GrowingLine.joins all refl
+    c.in-Ok-tri.ensures in
+    part_not_put _ inside (codes "]") _ g.met.L.GrowingLine.stops first refl c.in-Err-tri-2.ensures
+
+pub push_list-returns-3 : goal.push_list-returns-3
+push_list-returns-3 g t c =
     let joins = g.met.L.GrowingLine.joins in
     let inside = join_by (λ v. value_text (shown_as c.args.form.now g.V.LineValue.value v)) (codes ",")
     c.args.items.now in
@@ -21,6 +40,27 @@ push_list-returns g t c =
 
 pub push_map-returns : goal.push_map-returns
 push_map-returns g t c =
+    let value = shown_as c.args.form.now g.V.LineValue.value in
+    let inside = join_by (λ p. value_text (value p.0) ++ codes "=" ++ value_text (value p.1)) (codes ",")
+    c.args.pairs.now in
+    part_not_put _ (codes "Map:{") (inside ++ codes "}") _ g.met.L.GrowingLine.stops
+    (all_left g.L.GrowingLine.grows c.args.out.now
+    (sym (text_of_shown_map c.args.form.now g.V.LineValue.value c.args.pairs.now)))
+    refl c.in-Err-tri.ensures
+
+pub push_map-returns-2 : goal.push_map-returns-2
+push_map-returns-2 g t c =
+    let value = shown_as c.args.form.now g.V.LineValue.value in
+    let inside = join_by (λ p. value_text (value p.0) ++ codes "=" ++ value_text (value p.1)) (codes ",")
+    c.args.pairs.now in
+    let all = all_left g.L.GrowingLine.grows c.args.out.now
+    (sym (text_of_shown_map c.args.form.now g.V.LineValue.value c.args.pairs.now)) in
+    let first = part_put _ (codes "Map:{") (inside ++ codes "}") g.met.L.GrowingLine.joins all refl
+    c.in-Ok-tri.ensures in
+    part_not_put _ inside (codes "}") _ g.met.L.GrowingLine.stops first refl c.in-Err-tri-2.ensures
+
+pub push_map-returns-3 : goal.push_map-returns-3
+push_map-returns-3 g t c =
     let joins = g.met.L.GrowingLine.joins in
     let value = shown_as c.args.form.now g.V.LineValue.value in
     let inside = join_by (λ p. value_text (value p.0) ++ codes "=" ++ value_text (value p.1)) (codes ",")
@@ -45,6 +85,23 @@ push_items-items-preserved g t c =
     (joined_first shown c.args.items.now c.items.index x.result c.items-test.true x.is)
     (joins _ _ _ _ _ _ c.in-Ok-tri.ensures c.in-Ok-tri-2.ensures)
 
+pub push_items-returns-in-items : goal.push_items-returns-in-items
+push_items-returns-in-items g t c =
+    let shown = λ v. value_text (shown_as c.args.form.now g.V.LineValue.value v) in
+    let x = c.index-items-index in
+    let stops = g.met.L.GrowingLine.stops in
+    part_not_put _ _ _ _ stops c.items.invariant
+    (joined_first shown c.args.items.now c.items.index x.result c.items-test.true x.is)
+    (stops _ _ _ _ _ c.in-Err-tri.ensures)
+
+pub push_items-returns-in-items-2 : goal.push_items-returns-in-items-2
+push_items-returns-in-items-2 g t c =
+    let shown = λ v. value_text (shown_as c.args.form.now g.V.LineValue.value v) in
+    let x = c.index-items-index in
+    part_not_put _ _ _ _ g.met.L.GrowingLine.stops c.items.invariant
+    (joined_first shown c.args.items.now c.items.index x.result c.items-test.true x.is)
+    (g.met.L.GrowingLine.joins _ _ _ _ _ _ c.in-Ok-tri.ensures c.in-Err-tri-2.ensures)
+
 pub push_items-returns : goal.push_items-returns
 push_items-returns g t c =
     none_left g.met.L.GrowingLine.empty c.items.invariant
@@ -63,11 +120,55 @@ push_pairs-pairs-preserved g t c =
     let shown = λ p. value_text (value p.0) ++ codes "=" ++ value_text (value p.1) in
     let x = c.index-pairs-index in
     let joins = g.met.L.GrowingLine.joins in
-    let last = joins _ _ _ _ _ _ c.in-Ok-tri-3.ensures c.in-Ok-tri-4.ensures in
-    let pair = joins _ _ _ _ _ _ c.in-Ok-tri-2.ensures last in
+    let keyed = joins _ _ _ _ _ _ c.in-Ok-tri-2.ensures c.in-Ok-tri-3.ensures in
+    let pair = joins _ _ _ _ _ _ keyed c.in-Ok-tri-4.ensures in
     part_put _ _ _ joins c.pairs.invariant
     (joined_first shown c.args.pairs.now c.pairs.index x.result c.pairs-test.true x.is)
     (joins _ _ _ _ _ _ c.in-Ok-tri.ensures pair)
+
+pub push_pairs-returns-in-pairs : goal.push_pairs-returns-in-pairs
+push_pairs-returns-in-pairs g t c =
+    let value = shown_as c.args.form.now g.V.LineValue.value in
+    let shown = λ p. value_text (value p.0) ++ codes "=" ++ value_text (value p.1) in
+    let x = c.index-pairs-index in
+    let stops = g.met.L.GrowingLine.stops in
+    part_not_put _ _ _ _ stops c.pairs.invariant
+    (joined_first shown c.args.pairs.now c.pairs.index x.result c.pairs-test.true x.is)
+    (stops _ _ _ _ _ c.in-Err-tri.ensures)
+
+pub push_pairs-returns-in-pairs-2 : goal.push_pairs-returns-in-pairs-2
+push_pairs-returns-in-pairs-2 g t c =
+    let value = shown_as c.args.form.now g.V.LineValue.value in
+    let shown = λ p. value_text (value p.0) ++ codes "=" ++ value_text (value p.1) in
+    let x = c.index-pairs-index in
+    let stops = g.met.L.GrowingLine.stops in
+    part_not_put _ _ _ _ stops c.pairs.invariant
+    (joined_first shown c.args.pairs.now c.pairs.index x.result c.pairs-test.true x.is)
+    (g.met.L.GrowingLine.joins _ _ _ _ _ _ c.in-Ok-tri.ensures
+    (stops _ _ _ _ _ (stops _ _ _ _ _ c.in-Err-tri-2.ensures)))
+
+pub push_pairs-returns-in-pairs-3 : goal.push_pairs-returns-in-pairs-3
+push_pairs-returns-in-pairs-3 g t c =
+    let value = shown_as c.args.form.now g.V.LineValue.value in
+    let shown = λ p. value_text (value p.0) ++ codes "=" ++ value_text (value p.1) in
+    let x = c.index-pairs-index in
+    let joins = g.met.L.GrowingLine.joins in
+    let stops = g.met.L.GrowingLine.stops in
+    part_not_put _ _ _ _ stops c.pairs.invariant
+    (joined_first shown c.args.pairs.now c.pairs.index x.result c.pairs-test.true x.is)
+    (joins _ _ _ _ _ _ c.in-Ok-tri.ensures
+    (stops _ _ _ _ _ (joins _ _ _ _ _ _ c.in-Ok-tri-2.ensures c.in-Err-tri-3.ensures)))
+
+pub push_pairs-returns-in-pairs-4 : goal.push_pairs-returns-in-pairs-4
+push_pairs-returns-in-pairs-4 g t c =
+    let value = shown_as c.args.form.now g.V.LineValue.value in
+    let shown = λ p. value_text (value p.0) ++ codes "=" ++ value_text (value p.1) in
+    let x = c.index-pairs-index in
+    let joins = g.met.L.GrowingLine.joins in
+    let keyed = joins _ _ _ _ _ _ c.in-Ok-tri-2.ensures c.in-Ok-tri-3.ensures in
+    part_not_put _ _ _ _ g.met.L.GrowingLine.stops c.pairs.invariant
+    (joined_first shown c.args.pairs.now c.pairs.index x.result c.pairs-test.true x.is)
+    (joins _ _ _ _ _ _ c.in-Ok-tri.ensures (joins _ _ _ _ _ _ keyed c.in-Err-tri-4.ensures))
 
 pub push_pairs-returns : goal.push_pairs-returns
 push_pairs-returns g t c =
