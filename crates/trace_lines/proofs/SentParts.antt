@@ -1,12 +1,15 @@
 -- What is held, and a line that is sent in parts.
 use Rattle.std.proofs.Common.{◌≡◌, ℕ, List, [], ◌∷◌, ◌++◌, take, drop, Result, Ok, Err, refl, sym, ap, subst, ◌∙◌}
-use Rattle.std.proofs.Common.{append_assoc, append-nil, arith, string_bytes}
+use Rattle.std.proofs.Common.{append_assoc, append-nil, arith, string_bytes, String, Global}
 use Rattle.std.proofs.lemmas.List.{take-append-drop}
 use Rattle.std.specs.declared.io.ErrorKind.{ErrorKind}
 use Rattle.trace_values.specs.Sending.{Account, TookOnly}
 use Rattle.trace_values.proofs.SendingLemmas.{TookOnly-none, TookOnly-join}
 use Rattle.trace_lines.specs.Dumps.{PrintsUpToFault}
-use Rattle.trace_lines.specs.parts.SentLines.{Leaves, BeginsWith, GoThrough, LineGrows}
+use Rattle.dial9_trace_format.specs.ShownEvents.{ShownEvent}
+use Rattle.trace_lines.specs.Lines.{line}
+use Rattle.trace_lines.specs.ResolvedLines.{resolved_line}
+use Rattle.trace_lines.specs.parts.SentLines.{Leaves, BeginsWith, GoThrough, GoOut, LineGrows, HoldsEvent, unsent}
 use Rattle.trace_lines.specs.parts.LineLaws.{line_joins}
 use Rattle.trace_lines.specs.declared.sent_lines.Lines.{Lines}
 use Rattle.trace_lines.specs.declared.sent_lines.LineFault.{LineFault}
@@ -88,3 +91,51 @@ pub put_and_sent :
     LineGrows told s text (Ok tt) m → LineGrows told m [] r t → LineGrows told s text r t
 put_and_sent told s m t text r first second =
     subst (λ (x : List ℕ). LineGrows told s x r t) (append-nil text) (line_joins told s m t text [] r first second)
+
+-- ---- the line of an event
+
+-- the line of an event was not made: what was held before stays, or it went to the writer in part
+pub hold_fails :
+    {W : Type 0} (told : W → Account) (s m : Lines W) (l : String Global) {x e : ShownEvent} (f : LineFault) →
+    string_bytes l ≡ [] → x ≡ e → LineGrows told (record s { line = l }) (line (resolved_line x)) (Err f) m →
+    HoldsEvent told s e (Err f) m
+hold_fails {W} told s m l {x} {e} f none is went =
+    let held = string_bytes m.held in
+    let a = told s.out.now in
+    let b = told m.out.now in
+    let before = string_bytes s.held in
+    let bytes = not_appended a b (before ++ line (resolved_line x)) (unsent m) held held f
+    (from_nothing a b before (line (resolved_line x)) (unsent m) held (Err f) none went.bytes) in
+    subst (λ (y : ShownEvent). HoldsEvent told s y (Err f) m) is
+    (record { same_writer = went.same_writer; bytes = bytes })
+
+-- the line of an event was made
+pub line_made :
+    {W : Type 0} (told : W → Account) (s m : Lines W) (l : String Global) {x e : ShownEvent} →
+    string_bytes l ≡ [] → x ≡ e → LineGrows told (record s { line = l }) (line (resolved_line x)) (Ok tt) m →
+    GoOut told s m (string_bytes s.held ++ line (resolved_line e)) (unsent m) (Ok tt)
+line_made {W} told s m l {x} {e} none is went =
+    let a = told s.out.now in
+    let b = told m.out.now in
+    let before = string_bytes s.held in
+    subst (λ (y : ShownEvent). GoOut told s m (before ++ line (resolved_line y)) (unsent m) (Ok tt)) is
+    (record {
+      same_writer = went.same_writer;
+      bytes = from_nothing a b before (line (resolved_line x)) (unsent m) (string_bytes m.held) (Ok tt) none went.bytes;
+    })
+
+-- and then held
+pub event_held :
+    {W : Type 0} (told : W → Account) (s m : Lines W) (h : String Global) {e : ShownEvent} →
+    GoOut told s m (string_bytes s.held ++ line (resolved_line e)) (unsent m) (Ok tt) →
+    string_bytes h ≡ unsent m → HoldsEvent told s e (Ok tt) (record m { held = h })
+event_held told s m h made is =
+    record { same_writer = made.same_writer; bytes = line_held is made.bytes }
+
+-- or not, where a growth was refused
+pub event_not_held :
+    {W : Type 0} (told : W → Account) (s m : Lines W) (h : String Global) {e : ShownEvent} →
+    GoOut told s m (string_bytes s.held ++ line (resolved_line e)) (unsent m) (Ok tt) →
+    string_bytes h ≡ string_bytes m.held → HoldsEvent told s e (Err OutOfMemory) (record m { held = h })
+event_not_held told s m h made is =
+    record { same_writer = made.same_writer; bytes = line_not_held (string_bytes m.line) is made.bytes }

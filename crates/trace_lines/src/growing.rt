@@ -34,6 +34,10 @@ pub(crate) trait GrowingLine {
     fn put_on<P: LinePart>(&mut self, part: P) -> Result<(), Self::Fault>
         ensures { grows self.old (P.text part) result self.new };
 
+    /// Appends nothing, since a growth was refused elsewhere.
+    fn refuse(&mut self) -> Result<(), Self::Fault>
+        ensures { (text : List ℕ) → grows self.old text result self.new };
+
     /// No text is appended by doing nothing.
     ghost empty: { (s : Self) → grows s [] (Ok tt) s };
 
@@ -66,6 +70,10 @@ impl GrowingLine for String {
     #[inline(always)]
     fn put_on<P: LinePart>(&mut self, part: P) -> Result<(), AllocError> {
         part.push_to(self)
+    }
+
+    fn refuse(&mut self) -> Result<(), AllocError> {
+        Err(AllocError)
     }
 }
 

@@ -69,6 +69,10 @@ impl<'w, W: TraceWrite> GrowingLine for Lines<'w, W> {
         }
         self.send_line()
     }
+
+    fn refuse(&mut self) -> Result<(), LineFault> {
+        Err(LineFault::OutOfMemory)
+    }
 }
 
 impl<'w, W> Lines<'w, W> {

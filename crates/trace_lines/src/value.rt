@@ -251,9 +251,24 @@ fn push_pairs<V: LineValue, L: GrowingLine>(
     Ok(())
 }
 
-/// Whether the pools know all ids in a value, or the first that they do not know.
+/// Whether the pools know all ids in a value, or the first that they do not know. (One that holds no others is looked
+/// at in line.)
+#[inline(always)]
+pub(crate) fn value_known<V: LineValue>(
+    strings: &StringPool,
+    stacks: &StackPool,
+    value: &V,
+) -> Result<(), DeserError>
+    ensures { IsKnown (unknown_ids (as_pools strings.now stacks.now) (V.value value.now)) result }
+{
+    match value.held() {
+        Held::Nothing => value.flat_known(strings, stacks),
+        Held::Items(_) | Held::Pairs(_) => ids_known(strings, stacks, value),
+    }
+}
+
 #[cycle(knowing)]
-pub(crate) fn ids_known<V: LineValue>(
+fn ids_known<V: LineValue>(
     strings: &StringPool,
     stacks: &StackPool,
     value: &V,

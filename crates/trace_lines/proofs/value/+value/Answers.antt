@@ -78,7 +78,7 @@ push_items-items-init g t c =
 
 pub push_items-items-preserved : goal.push_items-items-preserved
 push_items-items-preserved g t c =
-    let shown = λ v. value_text (shown_as c.args.form.now g.V.LineValue.value v) in
+    let shown = λ (v : g.row.V.Denot). value_text (shown_as c.args.form.now g.V.LineValue.value v) in
     let x = c.index-items-index in
     let joins = g.met.L.GrowingLine.joins in
     part_put _ _ _ joins c.items.invariant
@@ -87,7 +87,7 @@ push_items-items-preserved g t c =
 
 pub push_items-returns-in-items : goal.push_items-returns-in-items
 push_items-returns-in-items g t c =
-    let shown = λ v. value_text (shown_as c.args.form.now g.V.LineValue.value v) in
+    let shown = λ (v : g.row.V.Denot). value_text (shown_as c.args.form.now g.V.LineValue.value v) in
     let x = c.index-items-index in
     let stops = g.met.L.GrowingLine.stops in
     part_not_put _ _ _ _ stops c.items.invariant
@@ -96,7 +96,7 @@ push_items-returns-in-items g t c =
 
 pub push_items-returns-in-items-2 : goal.push_items-returns-in-items-2
 push_items-returns-in-items-2 g t c =
-    let shown = λ v. value_text (shown_as c.args.form.now g.V.LineValue.value v) in
+    let shown = λ (v : g.row.V.Denot). value_text (shown_as c.args.form.now g.V.LineValue.value v) in
     let x = c.index-items-index in
     part_not_put _ _ _ _ g.met.L.GrowingLine.stops c.items.invariant
     (joined_first shown c.args.items.now c.items.index x.result c.items-test.true x.is)
@@ -117,7 +117,7 @@ push_pairs-pairs-init g t c =
 pub push_pairs-pairs-preserved : goal.push_pairs-pairs-preserved
 push_pairs-pairs-preserved g t c =
     let value = shown_as c.args.form.now g.V.LineValue.value in
-    let shown = λ p. value_text (value p.0) ++ codes "=" ++ value_text (value p.1) in
+    let shown = λ (p : g.row.V.Denot × g.row.V.Denot). value_text (value p.0) ++ codes "=" ++ value_text (value p.1) in
     let x = c.index-pairs-index in
     let joins = g.met.L.GrowingLine.joins in
     let keyed = joins _ _ _ _ _ _ c.in-Ok-tri-2.ensures c.in-Ok-tri-3.ensures in
@@ -129,7 +129,7 @@ push_pairs-pairs-preserved g t c =
 pub push_pairs-returns-in-pairs : goal.push_pairs-returns-in-pairs
 push_pairs-returns-in-pairs g t c =
     let value = shown_as c.args.form.now g.V.LineValue.value in
-    let shown = λ p. value_text (value p.0) ++ codes "=" ++ value_text (value p.1) in
+    let shown = λ (p : g.row.V.Denot × g.row.V.Denot). value_text (value p.0) ++ codes "=" ++ value_text (value p.1) in
     let x = c.index-pairs-index in
     let stops = g.met.L.GrowingLine.stops in
     part_not_put _ _ _ _ stops c.pairs.invariant
@@ -139,7 +139,7 @@ push_pairs-returns-in-pairs g t c =
 pub push_pairs-returns-in-pairs-2 : goal.push_pairs-returns-in-pairs-2
 push_pairs-returns-in-pairs-2 g t c =
     let value = shown_as c.args.form.now g.V.LineValue.value in
-    let shown = λ p. value_text (value p.0) ++ codes "=" ++ value_text (value p.1) in
+    let shown = λ (p : g.row.V.Denot × g.row.V.Denot). value_text (value p.0) ++ codes "=" ++ value_text (value p.1) in
     let x = c.index-pairs-index in
     let stops = g.met.L.GrowingLine.stops in
     part_not_put _ _ _ _ stops c.pairs.invariant
@@ -150,7 +150,7 @@ push_pairs-returns-in-pairs-2 g t c =
 pub push_pairs-returns-in-pairs-3 : goal.push_pairs-returns-in-pairs-3
 push_pairs-returns-in-pairs-3 g t c =
     let value = shown_as c.args.form.now g.V.LineValue.value in
-    let shown = λ p. value_text (value p.0) ++ codes "=" ++ value_text (value p.1) in
+    let shown = λ (p : g.row.V.Denot × g.row.V.Denot). value_text (value p.0) ++ codes "=" ++ value_text (value p.1) in
     let x = c.index-pairs-index in
     let joins = g.met.L.GrowingLine.joins in
     let stops = g.met.L.GrowingLine.stops in
@@ -162,7 +162,7 @@ push_pairs-returns-in-pairs-3 g t c =
 pub push_pairs-returns-in-pairs-4 : goal.push_pairs-returns-in-pairs-4
 push_pairs-returns-in-pairs-4 g t c =
     let value = shown_as c.args.form.now g.V.LineValue.value in
-    let shown = λ p. value_text (value p.0) ++ codes "=" ++ value_text (value p.1) in
+    let shown = λ (p : g.row.V.Denot × g.row.V.Denot). value_text (value p.0) ++ codes "=" ++ value_text (value p.1) in
     let x = c.index-pairs-index in
     let joins = g.met.L.GrowingLine.joins in
     let keyed = joins _ _ _ _ _ _ c.in-Ok-tri-2.ensures c.in-Ok-tri-3.ensures in

@@ -25,13 +25,13 @@ decreases-push_pairs g l = 3 * most (pair_depth g.V.LineValue.depth) l.pairs.now
 
 abbrev pub invariant-push_items-items : goal.invariant-push_items-items
 invariant-push_items-items g l =
-    let shown = λ v. value_text (shown_as l.form g.V.LineValue.value v) in
+    let shown = λ (v : g.row.V.Denot). value_text (shown_as l.form g.V.LineValue.value v) in
     IsLeft g.L.GrowingLine.grows l.initial.out (join_by shown (codes ",") l.items) l.out
     (joined_left shown l.index (drop l.index l.items))
 
 abbrev pub invariant-push_pairs-pairs : goal.invariant-push_pairs-pairs
 invariant-push_pairs-pairs g l =
     let value = shown_as l.form g.V.LineValue.value in
-    let shown = λ p. value_text (value p.0) ++ codes "=" ++ value_text (value p.1) in
+    let shown = λ (p : g.row.V.Denot × g.row.V.Denot). value_text (value p.0) ++ codes "=" ++ value_text (value p.1) in
     IsLeft g.L.GrowingLine.grows l.initial.out (join_by shown (codes ",") l.pairs) l.out
     (joined_left shown l.index (drop l.index l.pairs))
