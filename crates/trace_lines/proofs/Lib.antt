@@ -19,3 +19,5 @@ mod ShownForms
 mod NamedValues
 mod FrameLines
 mod PlainRuns
+mod GrowingParts
+mod SentParts

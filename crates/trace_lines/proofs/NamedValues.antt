@@ -25,50 +25,36 @@ abbrev pub left_text : {V : Type 0} → (V → Value) → Pools → List Field �
 left_text see p names values =
     flat_map entry_text (under_names (names_of names) (list_map (in_full p) (list_map see values)))
 
--- one field more is appended
-pub field_put :
+-- the first of the fields that are left
+pub field_first :
     {V : Type 0} (see : V → Value) (p : Pools) {names : List Field} {name : Field} {others : List Field}
-    (values : List V) (i : ℕ)
-    {x : V} (old : List ℕ) {new called whole : List ℕ} →
+    (values : List V) (i : ℕ) {x : V} {called : List ℕ} →
     names ≡ name ∷ others → ElementAt values i x → called ≡ name.name →
-    new ≡ old ++ entry_text (called, in_full p (see x)) →
-    old ++ left_text see p names (drop i values) ≡ whole →
-    new ++ left_text see p others (drop (i + 1) values) ≡ whole
-field_put {V} see p {names} {name} {others} values i {x} old {new} {called} parts at same put before =
+    left_text see p names (drop i values)
+    ≡ entry_text (called, in_full p (see x)) ++ left_text see p others (drop (i + 1) values)
+field_first {V} see p {names} {name} {others} values i {x} parts at same =
     let rest = left_text see p others (drop (i + 1) values) in
-    let one = entry_text (name.name, in_full p (see x)) in
-    let first : drop i values ≡ x ∷ drop (i + 1) values =
-    first_left values i x at.inside at.is in
-    let all : left_text see p names (drop i values) ≡ one ++ rest =
-    ap₂ (λ (ns : List Field) (vs : List V). left_text see p ns vs) parts first in
-    let put_one : new ≡ old ++ one =
-    put ∙ ap (λ (n : List ℕ). old ++ entry_text (n, in_full p (see x))) same in
-    ap (λ (t : List ℕ). t ++ rest) put_one ∙ append_assoc old one rest
-    ∙ ap (λ (t : List ℕ). old ++ t) (sym all) ∙ before
+    ap₂ (λ (ns : List Field) (vs : List V). left_text see p ns vs) parts (first_left values i x at.inside at.is)
+    ∙ ap (λ (n : List ℕ). entry_text (n, in_full p (see x)) ++ rest) (sym same)
 
--- when no value is left all are appended
-pub fields_put :
-    {V : Type 0} (see : V → Value) (p : Pools) (names : List Field) (values : List V) (i : ℕ) (old whole : List ℕ) →
-    length values ≤ i → old ++ left_text see p names (drop i values) ≡ whole → old ≡ whole
-fields_put {V} see p names values i old whole le before =
-    let none : left_text see p names (drop i values) ≡ [] =
+-- when no value is left no field is
+pub no_value_left :
+    {V : Type 0} (see : V → Value) (p : Pools) (names : List Field) (values : List V) (i : ℕ) → length values ≤ i →
+    left_text see p names (drop i values) ≡ []
+no_value_left {V} see p names values i le =
     ap (λ (vs : List V). left_text see p names vs) (drop_all i values le)
-    ∙ ap (flat_map entry_text) (named_none (names_of names)) in
-    sym (append-nil old) ∙ ap (λ (t : List ℕ). old ++ t) (sym none) ∙ before
+    ∙ ap (flat_map entry_text) (named_none (names_of names))
 
 nameless : (vs : List Value) → under_names [] vs ≡ []
 nameless [] = refl
 nameless (v ∷ vs) = refl
 
 -- when no name is left, too
-pub names_put :
-    {V : Type 0} (see : V → Value) (p : Pools) (names : List Field) (values : List V) (i : ℕ) (old whole : List ℕ) →
-    length names ≡ 0 → old ++ left_text see p names (drop i values) ≡ whole → old ≡ whole
-names_put see p [] values i old whole empty before =
-    let none : left_text see p [] (drop i values) ≡ [] =
-    ap (flat_map entry_text) (nameless (list_map (in_full p) (list_map see (drop i values)))) in
-    sym (append-nil old) ∙ ap (λ (t : List ℕ). old ++ t) (sym none) ∙ before
-names_put see p (n ∷ names) values i old whole empty before = absurd (omega (arith, empty))
+pub no_field_left :
+    {V : Type 0} (see : V → Value) (p : Pools) (names : List Field) (values : List V) → length names ≡ 0 →
+    left_text see p names values ≡ []
+no_field_left see p [] values empty = ap (flat_map entry_text) (nameless (list_map (in_full p) (list_map see values)))
+no_field_left see p (n ∷ names) values empty = absurd (omega (arith, empty))
 
 -- ---- what is unresolved
 

@@ -1,6 +1,5 @@
 -- The text of a value that is shown as it is or in full, from the values that it holds.
 use Rattle.std.proofs.Common.{◌≡◌, List, ◌++◌, map as list_map, codes, refl, ap, ◌∙◌}
-use Rattle.std.specs.Prelude.{encode_utf8}
 use Rattle.std.specs.List.{join_by}
 use Rattle.trace_values.specs.Values.{Value, Items, Pairs, list, map}
 use Rattle.trace_values.specs.Reading.{values_to_items, values_to_pairs}
@@ -38,7 +37,7 @@ shown_pairs (InFull strings stacks) see ps =
 pub text_of_shown_list :
     {V : Type 0} (form : Shown) (see : V → Value) (vs : List V) →
     value_text (shown_in form (list (values_to_items (list_map see vs))))
-    ≡ (codes "List:[" ++ join_by (λ v. value_text (shown_in form (see v))) (codes ",") vs) ++ encode_utf8 93
+    ≡ codes "List:[" ++ (join_by (λ v. value_text (shown_in form (see v))) (codes ",") vs ++ codes "]")
 text_of_shown_list form see vs =
     ap (λ (v : Value). value_text v) (shown_items form see vs) ∙ text_of_list (λ v. shown_in form (see v)) vs
 
@@ -46,9 +45,8 @@ text_of_shown_list form see vs =
 pub text_of_shown_map :
     {V : Type 0} (form : Shown) (see : V → Value) (ps : List (V × V)) →
     value_text (shown_in form (map (values_to_pairs (list_map (λ p. (see p.0, see p.1)) ps))))
-    ≡ (codes "Map:{" ++ join_by (λ p. value_text (shown_in form (see p.0)) ++ codes "="
-    ++ value_text (shown_in form (see p.1))) (codes ",") ps)
-    ++ encode_utf8 125
+    ≡ codes "Map:{" ++ (join_by (λ p. value_text (shown_in form (see p.0)) ++ codes "="
+    ++ value_text (shown_in form (see p.1))) (codes ",") ps ++ codes "}")
 text_of_shown_map form see ps =
     ap (λ (v : Value). value_text v) (shown_pairs form see ps)
     ∙ text_of_map (λ p. (shown_in form (see p.0), shown_in form (see p.1))) ps

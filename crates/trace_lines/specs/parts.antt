@@ -5,3 +5,6 @@ pub mod Program
 pub mod Sent
 pub mod InFull
 pub mod EventLines
+pub mod TextLaws
+pub mod SentLines
+pub mod LineLaws

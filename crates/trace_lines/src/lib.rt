@@ -4,12 +4,14 @@
 mod borrowed;
 pub mod dump;
 mod entries;
+mod growing;
 pub mod lines;
 pub mod pieces;
 mod plain;
 mod pooled;
 pub mod program;
 pub mod resolved;
+mod sent_lines;
 pub mod text;
 mod text_maps;
 pub mod value;

@@ -16,12 +16,12 @@ ghost use Rattle.trace_lines.specs.parts.Holding.{HoldsInside};
 ghost use Rattle.trace_lines.specs.parts.InFull.{shown_in, IsKnown};
 ghost use Rattle.trace_lines.specs.Lines.{value_text};
 
+use crate::growing::{CommaBefore, GrowingLine, LinePart};
 use crate::plain::{
     push_bytes, push_float, push_integer, push_number, push_pooled_stack, push_pooled_text,
     push_stack, push_text, push_truth,
 };
 use crate::pooled::{push_known_stack, push_known_text, stack_known, text_known};
-use crate::text::push_comma_before;
 use crate::text_maps::{push_texts, text_pairs};
 use dial9_trace_format::resolve::DeserError;
 use std::alloc::AllocError;
@@ -151,107 +151,124 @@ pub fn push_value(out: &mut String, value: &FieldValue) -> Result<(), AllocError
     push_line_value(out, value, &Shown::Plain)
 }
 
-/// The same of any value that stands in a line, as it is or in full.
+/// A value that holds no others.
+#[derive(Clone, Copy)]
+struct FlatValue<'v, 'p, V> {
+    value: &'v V,
+    form: &'v Shown<'p>,
+}
+
+impl<'v, 'p, V: LineValue> LinePart for FlatValue<'v, 'p, V> {
+    ghost text = { λ p. value_text (shown_in p.form.now (flat_form (V.value p.value.now))) };
+
+    #[inline(always)]
+    fn push_to(self, out: &mut String) -> Result<(), AllocError> {
+        match self.form {
+            Shown::Plain => self.value.push_flat(out),
+            Shown::InFull(strings, stacks) => self.value.push_flat_in_full(out, strings, stacks),
+        }
+    }
+}
+
+/// The same of any value and any line, as the value is or in full.
 #[cycle(value)]
-pub(crate) fn push_line_value<V: LineValue>(
-    out: &mut String,
+pub(crate) fn push_line_value<V: LineValue, L: GrowingLine>(
+    out: &mut L,
     value: &V,
     form: &Shown<'_>,
-) -> Result<(), AllocError>
-    ensures { AppendsText (value_text (shown_in form.now (V.value value.now))) out.old out.new
-        result }
+) -> Result<(), L::Fault>
+    ensures { L.grows out.old (value_text (shown_in form.now (V.value value.now))) result out.new }
 {
     match value.held() {
         Held::Items(items) => push_list(out, items, form),
         Held::Pairs(pairs) => push_map(out, pairs, form),
-        Held::Nothing => push_flat_value(out, value, form),
-    }
-}
-
-// Appends a value that holds no others.
-fn push_flat_value<V: LineValue>(
-    out: &mut String,
-    value: &V,
-    form: &Shown<'_>,
-) -> Result<(), AllocError>
-    ensures { AppendsText (value_text (shown_in form.now (flat_form (V.value value.now)))) out.old
-        out.new result }
-{
-    match form {
-        Shown::Plain => value.push_flat(out),
-        Shown::InFull(strings, stacks) => value.push_flat_in_full(out, strings, stacks),
+        Held::Nothing => out.put_on(FlatValue { value, form }),
     }
 }
 
 #[cycle(value)]
-fn push_list<V: LineValue>(
-    out: &mut String,
+fn push_list<V: LineValue, L: GrowingLine>(
+    out: &mut L,
     items: &[V],
     form: &Shown<'_>,
-) -> Result<(), AllocError>
-    ensures { AppendsText (value_text (shown_in form.now
-        (list (values_to_items (list_map V.value items.now))))) out.old out.new result }
+) -> Result<(), L::Fault>
+    ensures { L.grows out.old (value_text (shown_in form.now
+        (list (values_to_items (list_map V.value items.now))))) result out.new }
 {
-    out.push_str("List:[")?;
-    push_items(out, items, form)?;
-    out.push(']')
+    tri!(out.put("List:["));
+    tri!(push_items(out, items, form));
+    out.put("]")
 }
 
 #[cycle(value)]
-fn push_map<V: LineValue>(
-    out: &mut String,
+fn push_map<V: LineValue, L: GrowingLine>(
+    out: &mut L,
     pairs: &[(V, V)],
     form: &Shown<'_>,
-) -> Result<(), AllocError>
-    ensures { AppendsText (value_text (shown_in form.now
-        (map (values_to_pairs (list_map (λ p. (V.value p.0, V.value p.1)) pairs.now))))) out.old
-        out.new result }
+) -> Result<(), L::Fault>
+    ensures { L.grows out.old (value_text (shown_in form.now
+        (map (values_to_pairs (list_map (λ p. (V.value p.0, V.value p.1)) pairs.now))))) result
+        out.new }
 {
-    out.push_str("Map:{")?;
-    push_pairs(out, pairs, form)?;
-    out.push('}')
+    tri!(out.put("Map:{"));
+    tri!(push_pairs(out, pairs, form));
+    out.put("}")
 }
 
 #[cycle(value)]
-fn push_items<V: LineValue>(
-    out: &mut String,
+fn push_items<V: LineValue, L: GrowingLine>(
+    out: &mut L,
     items: &[V],
     form: &Shown<'_>,
-) -> Result<(), AllocError>
-    ensures { AppendsText
-        (join_by (λ v. value_text (shown_in form.now (V.value v))) (codes ",") items.now) out.old
-        out.new result }
+) -> Result<(), L::Fault>
+    ensures { L.grows out.old
+        (join_by (λ v. value_text (shown_in form.now (V.value v))) (codes ",") items.now) result
+        out.new }
 {
     'items: for (index, item) in items.iter().enumerate() {
-        push_comma_before(out, index)?;
-        push_line_value(out, item, form)?;
+        tri!(out.put(CommaBefore(index)));
+        tri!(push_line_value(out, item, form));
     }
     Ok(())
 }
 
 #[cycle(value)]
-fn push_pairs<V: LineValue>(
-    out: &mut String,
+fn push_pairs<V: LineValue, L: GrowingLine>(
+    out: &mut L,
     pairs: &[(V, V)],
     form: &Shown<'_>,
-) -> Result<(), AllocError>
-    ensures { AppendsText
+) -> Result<(), L::Fault>
+    ensures { L.grows out.old
         (join_by (λ p. value_text (shown_in form.now (V.value p.0)) ++ codes "="
-        ++ value_text (shown_in form.now (V.value p.1))) (codes ",") pairs.now) out.old out.new
-        result }
+        ++ value_text (shown_in form.now (V.value p.1))) (codes ",") pairs.now) result out.new }
 {
     'pairs: for (index, pair) in pairs.iter().enumerate() {
-        tri!(push_comma_before(out, index));
+        tri!(out.put(CommaBefore(index)));
         tri!(push_line_value(out, &pair.0, form));
-        tri!(out.push('='));
+        tri!(out.put("="));
         tri!(push_line_value(out, &pair.1, form));
     }
     Ok(())
 }
 
-/// Whether the pools know all ids in a value, or the first that they do not know.
+/// Whether the pools know all ids in a value, or the first that they do not know. (One that holds no others is looked
+/// at in line.)
+#[inline(always)]
+pub(crate) fn value_known<V: LineValue>(
+    strings: &StringPool,
+    stacks: &StackPool,
+    value: &V,
+) -> Result<(), DeserError>
+    ensures { IsKnown (unknown_ids (as_pools strings.now stacks.now) (V.value value.now)) result }
+{
+    match value.held() {
+        Held::Nothing => value.flat_known(strings, stacks),
+        Held::Items(_) | Held::Pairs(_) => ids_known(strings, stacks, value),
+    }
+}
+
 #[cycle(knowing)]
-pub(crate) fn ids_known<V: LineValue>(
+fn ids_known<V: LineValue>(
     strings: &StringPool,
     stacks: &StackPool,
     value: &V,

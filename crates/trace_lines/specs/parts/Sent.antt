@@ -7,20 +7,16 @@ use Rattle.trace_wire.specs.Runs.{Item, items}
 use Rattle.dial9_trace_format.specs.Decoding.{DecoderState, rest_of, Goes}
 use Rattle.trace_lines.specs.Lines.{line, item_line, first_line, no_header_line, whole_line, stopped_line}
 use Rattle.trace_lines.specs.Lines.{conflict_line}
-use Rattle.dial9_trace_format.specs.ShownEvents.{ShownEvent}
 use Rattle.dial9_trace_format.specs.declared.decoder.error.DecodeError.{DecodeError}
 use Rattle.dial9_trace_format.specs.declared.decoder.error.DecodeErrorKind.{DecodeErrorKind}
 use Rattle.dial9_trace_format.specs.declared.decoder.error.DecodeErrorKind.TheVariants as error_kinds
 use Rattle.trace_values.specs.Number.{AreBytes}
 use Rattle.trace_lines.specs.Dumps.{whole_status, no_header_status, stopped_status, conflict_status, kind_of}
 use Rattle.trace_lines.specs.Dumps.{IsDumpFrom, IsFrontOfDump, PrintsUpToFault}
-use Rattle.trace_lines.specs.ResolvedLines.{resolved_line}
 use Rattle.trace_lines.specs.declared.dump.DumpForm.{DumpForm}
 use Rattle.trace_lines.specs.declared.dump.DumpForm.TheVariants.{Frames}
 use Rattle.trace_lines.specs.declared.dump.Reader.{Reader}
-use Rattle.trace_lines.specs.declared.dump.Lines.{Lines}
-use Rattle.trace_lines.specs.declared.dump.LinesRefusal.{LinesRefusal}
-use Rattle.trace_lines.specs.declared.dump.LinesRefusal.TheVariants as refusals
+use Rattle.trace_lines.specs.declared.sent_lines.Lines.{Lines}
 use Rattle.trace_lines.specs.declared.dump.Gathered.{Gathered}
 use Rattle.trace_lines.specs.declared.dump.Gathered.TheVariants.{All, Enough, OutOfMemory}
 
@@ -78,12 +74,6 @@ HoldsLast r error held text (All status) = (last : List ℕ) × TellsEnd r error
 HoldsLast r error held text Enough = ⊥
 HoldsLast r error held text OutOfMemory = text ≡ held
 
--- the line of an event was held, resolved; or a growth was refused
-abbrev pub holds_event : Lines → ShownEvent → Result (Unit {0}) LinesRefusal → Lines → Type 0
-holds_event s e (Ok u) t = string_bytes t.held ≡ string_bytes s.held ++ line (resolved_line e)
-holds_event s e (Err refusals.Enough) t = string_bytes t.held ≡ string_bytes s.held ++ line (resolved_line e)
-holds_event s e (Err refusals.OutOfMemory) t = string_bytes t.held ≡ string_bytes s.held
-
 -- the lines of the frames up to the next one that is shown; or the last line, and its status
 abbrev pub IsNextLine : Reader → DecoderState → DecoderState → List ℕ → Option ℕ → Type 0
 IsNextLine reader old new text None =
@@ -110,3 +100,17 @@ Gathers form old new held text Enough =
     × (length (rest_of new) < length (rest_of old))
 Gathers form old new held text OutOfMemory =
     (status : ℕ) × (after : List ℕ) × IsHeldDump form held old status (text ++ after)
+
+-- the same, where a front of all these went to a writer already; or the writer failed, and got a front of the dump
+abbrev pub GathersOn : {E : Type 0} → Account → Account → DumpForm → DecoderState → DecoderState → List ℕ → List ℕ
+    → Result Gathered E → Type 0
+GathersOn a b form old new held text (Ok gathered) =
+    (sent : List ℕ) × TookOnly a b sent [] × Gathers form old new held (sent ++ text) gathered
+GathersOn a b form old new held text (Err e) = PrintsUpToFault (IsFrontOfDump (IsHeldDump form held old)) a b
+
+-- the same of lines, which keep their writer
+pub record GathersLines {W E : Type 0} (told : W → Account) (form : DumpForm) (old new : DecoderState)
+    (s t : Lines W) (result : Result Gathered E) : Type 0 where
+  pub same_writer : t.out.ghost_name ≡ s.out.ghost_name
+  pub gathered : GathersOn (told s.out.now) (told t.out.now) form old new (string_bytes s.held)
+      (string_bytes t.held) result

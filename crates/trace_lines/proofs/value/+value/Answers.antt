@@ -1,42 +1,181 @@
-use Rattle.std.proofs.Common.{◌++◌, codes, string_bytes, arith}
+use Rattle.std.proofs.Common.{◌++◌, codes, refl, sym, arith}
+use Rattle.std.specs.List.{join_by}
 use Rattle.trace_values.proofs.ValueSizes.{falls_3, steps_3}
 use Rattle.trace_lines.specs.Lines.{value_text}
-use Rattle.trace_lines.proofs.AppendedParts.{both_put, put_last, keyed}
 use Rattle.trace_lines.proofs.Depths.{item_in, key_in, value_in, most_below, most_pair_below}
-use Rattle.trace_lines.proofs.JoinedLists.{joined_more}
+use Rattle.trace_lines.proofs.GrowingParts.{IsLeft, all_left, part_put, part_not_put, none_left}
+use Rattle.trace_lines.proofs.JoinedLists.{joined_all, joined_first, joined_none}
 use Rattle.trace_lines.proofs.ShownForms.{shown_as, text_of_shown_list, text_of_shown_map}
 use Rattle.trace_lines.proofs.value.+value.Goals as goal
 
 pub push_list-returns : goal.push_list-returns
 push_list-returns g t c =
-    put_last c.push.result _ _ _ _ _ _ (text_of_shown_list c.args.form.now g.V.LineValue.value c.args.items.now)
-    (both_put (string_bytes c.args.out.now) _ _ _ _ c.in_ok-push_str.ensures.bytes c.in_ok-push_items.ensures)
-    c.push.ensures.bytes
+    let inside = join_by (λ v. value_text (shown_as c.args.form.now g.V.LineValue.value v)) (codes ",")
+    c.args.items.now in
+    part_not_put _ (codes "List:[") (inside ++ codes "]") _ g.met.L.GrowingLine.stops
+    (all_left g.L.GrowingLine.grows c.args.out.now
+    (sym (text_of_shown_list c.args.form.now g.V.LineValue.value c.args.items.now)))
+    refl c.in-Err-tri.ensures
+
+pub push_list-returns-2 : goal.push_list-returns-2
+push_list-returns-2 g t c =
+    let inside = join_by (λ v. value_text (shown_as c.args.form.now g.V.LineValue.value v)) (codes ",")
+    c.args.items.now in
+    let all = all_left g.L.GrowingLine.grows c.args.out.now
+    (sym (text_of_shown_list c.args.form.now g.V.LineValue.value c.args.items.now)) in
+    let first = part_put _ (codes "List:[") (inside ++ codes "]") g.met.L.GrowingLine.joins all refl
+    c.in-Ok-tri.ensures in
+    part_not_put _ inside (codes "]") _ g.met.L.GrowingLine.stops first refl c.in-Err-tri-2.ensures
+
+pub push_list-returns-3 : goal.push_list-returns-3
+push_list-returns-3 g t c =
+    let joins = g.met.L.GrowingLine.joins in
+    let inside = join_by (λ v. value_text (shown_as c.args.form.now g.V.LineValue.value v)) (codes ",")
+    c.args.items.now in
+    let all = all_left g.L.GrowingLine.grows c.args.out.now
+    (sym (text_of_shown_list c.args.form.now g.V.LineValue.value c.args.items.now)) in
+    let first = part_put _ (codes "List:[") (inside ++ codes "]") joins all refl c.in-Ok-tri.ensures in
+    let second = part_put _ inside (codes "]") joins first refl c.in-Ok-tri-2.ensures in
+    second.answers c.put-2.result c.put-2.new.self c.put-2.ensures
 
 pub push_map-returns : goal.push_map-returns
 push_map-returns g t c =
-    put_last c.push.result _ _ _ _ _ _
-    (text_of_shown_map c.args.form.now g.V.LineValue.value c.args.pairs.now)
-    (both_put (string_bytes c.args.out.now) _ _ _ _ c.in_ok-push_str.ensures.bytes c.in_ok-push_pairs.ensures)
-    c.push.ensures.bytes
+    let value = shown_as c.args.form.now g.V.LineValue.value in
+    let inside = join_by (λ p. value_text (value p.0) ++ codes "=" ++ value_text (value p.1)) (codes ",")
+    c.args.pairs.now in
+    part_not_put _ (codes "Map:{") (inside ++ codes "}") _ g.met.L.GrowingLine.stops
+    (all_left g.L.GrowingLine.grows c.args.out.now
+    (sym (text_of_shown_map c.args.form.now g.V.LineValue.value c.args.pairs.now)))
+    refl c.in-Err-tri.ensures
+
+pub push_map-returns-2 : goal.push_map-returns-2
+push_map-returns-2 g t c =
+    let value = shown_as c.args.form.now g.V.LineValue.value in
+    let inside = join_by (λ p. value_text (value p.0) ++ codes "=" ++ value_text (value p.1)) (codes ",")
+    c.args.pairs.now in
+    let all = all_left g.L.GrowingLine.grows c.args.out.now
+    (sym (text_of_shown_map c.args.form.now g.V.LineValue.value c.args.pairs.now)) in
+    let first = part_put _ (codes "Map:{") (inside ++ codes "}") g.met.L.GrowingLine.joins all refl
+    c.in-Ok-tri.ensures in
+    part_not_put _ inside (codes "}") _ g.met.L.GrowingLine.stops first refl c.in-Err-tri-2.ensures
+
+pub push_map-returns-3 : goal.push_map-returns-3
+push_map-returns-3 g t c =
+    let joins = g.met.L.GrowingLine.joins in
+    let value = shown_as c.args.form.now g.V.LineValue.value in
+    let inside = join_by (λ p. value_text (value p.0) ++ codes "=" ++ value_text (value p.1)) (codes ",")
+    c.args.pairs.now in
+    let all = all_left g.L.GrowingLine.grows c.args.out.now
+    (sym (text_of_shown_map c.args.form.now g.V.LineValue.value c.args.pairs.now)) in
+    let first = part_put _ (codes "Map:{") (inside ++ codes "}") joins all refl c.in-Ok-tri.ensures in
+    let second = part_put _ inside (codes "}") joins first refl c.in-Ok-tri-2.ensures in
+    second.answers c.put-2.result c.put-2.new.self c.put-2.ensures
+
+pub push_items-items-init : goal.push_items-items-init
+push_items-items-init g t c =
+    all_left g.L.GrowingLine.grows c.args.out.now
+    (joined_all (λ v. value_text (shown_as c.args.form.now g.V.LineValue.value v)) c.args.items.now)
 
 pub push_items-items-preserved : goal.push_items-items-preserved
 push_items-items-preserved g t c =
-    joined_more (λ v. value_text (shown_as c.args.form.now g.V.LineValue.value v)) (string_bytes c.args.out.now)
-    c.args.items.now c.items.index c.index-items-index.result c.items-test.true c.index-items-index.is c.items.invariant
-    c.in_ok-push_comma_before.ensures
-    c.in_ok-push_line_value.ensures
+    let shown = λ (v : g.row.V.Denot). value_text (shown_as c.args.form.now g.V.LineValue.value v) in
+    let x = c.index-items-index in
+    let joins = g.met.L.GrowingLine.joins in
+    part_put _ _ _ joins c.items.invariant
+    (joined_first shown c.args.items.now c.items.index x.result c.items-test.true x.is)
+    (joins _ _ _ _ _ _ c.in-Ok-tri.ensures c.in-Ok-tri-2.ensures)
+
+pub push_items-returns-in-items : goal.push_items-returns-in-items
+push_items-returns-in-items g t c =
+    let shown = λ (v : g.row.V.Denot). value_text (shown_as c.args.form.now g.V.LineValue.value v) in
+    let x = c.index-items-index in
+    let stops = g.met.L.GrowingLine.stops in
+    part_not_put _ _ _ _ stops c.items.invariant
+    (joined_first shown c.args.items.now c.items.index x.result c.items-test.true x.is)
+    (stops _ _ _ _ _ c.in-Err-tri.ensures)
+
+pub push_items-returns-in-items-2 : goal.push_items-returns-in-items-2
+push_items-returns-in-items-2 g t c =
+    let shown = λ (v : g.row.V.Denot). value_text (shown_as c.args.form.now g.V.LineValue.value v) in
+    let x = c.index-items-index in
+    part_not_put _ _ _ _ g.met.L.GrowingLine.stops c.items.invariant
+    (joined_first shown c.args.items.now c.items.index x.result c.items-test.true x.is)
+    (g.met.L.GrowingLine.joins _ _ _ _ _ _ c.in-Ok-tri.ensures c.in-Err-tri-2.ensures)
+
+pub push_items-returns : goal.push_items-returns
+push_items-returns g t c =
+    none_left g.met.L.GrowingLine.empty c.items.invariant
+    (joined_none (λ v. value_text (shown_as c.args.form.now g.V.LineValue.value v)) c.args.items.now c.items.index
+    c.items-test.false)
+
+pub push_pairs-pairs-init : goal.push_pairs-pairs-init
+push_pairs-pairs-init g t c =
+    let value = shown_as c.args.form.now g.V.LineValue.value in
+    all_left g.L.GrowingLine.grows c.args.out.now
+    (joined_all (λ p. value_text (value p.0) ++ codes "=" ++ value_text (value p.1)) c.args.pairs.now)
 
 pub push_pairs-pairs-preserved : goal.push_pairs-pairs-preserved
 push_pairs-pairs-preserved g t c =
     let value = shown_as c.args.form.now g.V.LineValue.value in
-    let put = keyed _ _ _ _ (value_text (value c.index-pairs-index.result.0))
-    (value_text (value c.index-pairs-index.result.1)) c.in-Ok-tri-2.ensures c.in-Ok-tri-3.ensures.bytes
-    c.in-Ok-tri-4.ensures in
-    joined_more (λ p. value_text (value p.0) ++ codes "=" ++ value_text (value p.1)) (string_bytes c.args.out.now)
-    c.args.pairs.now
-    c.pairs.index c.index-pairs-index.result c.pairs-test.true c.index-pairs-index.is c.pairs.invariant
-    c.in-Ok-tri.ensures put
+    let shown = λ (p : g.row.V.Denot × g.row.V.Denot). value_text (value p.0) ++ codes "=" ++ value_text (value p.1) in
+    let x = c.index-pairs-index in
+    let joins = g.met.L.GrowingLine.joins in
+    let keyed = joins _ _ _ _ _ _ c.in-Ok-tri-2.ensures c.in-Ok-tri-3.ensures in
+    let pair = joins _ _ _ _ _ _ keyed c.in-Ok-tri-4.ensures in
+    part_put _ _ _ joins c.pairs.invariant
+    (joined_first shown c.args.pairs.now c.pairs.index x.result c.pairs-test.true x.is)
+    (joins _ _ _ _ _ _ c.in-Ok-tri.ensures pair)
+
+pub push_pairs-returns-in-pairs : goal.push_pairs-returns-in-pairs
+push_pairs-returns-in-pairs g t c =
+    let value = shown_as c.args.form.now g.V.LineValue.value in
+    let shown = λ (p : g.row.V.Denot × g.row.V.Denot). value_text (value p.0) ++ codes "=" ++ value_text (value p.1) in
+    let x = c.index-pairs-index in
+    let stops = g.met.L.GrowingLine.stops in
+    part_not_put _ _ _ _ stops c.pairs.invariant
+    (joined_first shown c.args.pairs.now c.pairs.index x.result c.pairs-test.true x.is)
+    (stops _ _ _ _ _ c.in-Err-tri.ensures)
+
+pub push_pairs-returns-in-pairs-2 : goal.push_pairs-returns-in-pairs-2
+push_pairs-returns-in-pairs-2 g t c =
+    let value = shown_as c.args.form.now g.V.LineValue.value in
+    let shown = λ (p : g.row.V.Denot × g.row.V.Denot). value_text (value p.0) ++ codes "=" ++ value_text (value p.1) in
+    let x = c.index-pairs-index in
+    let stops = g.met.L.GrowingLine.stops in
+    part_not_put _ _ _ _ stops c.pairs.invariant
+    (joined_first shown c.args.pairs.now c.pairs.index x.result c.pairs-test.true x.is)
+    (g.met.L.GrowingLine.joins _ _ _ _ _ _ c.in-Ok-tri.ensures
+    (stops _ _ _ _ _ (stops _ _ _ _ _ c.in-Err-tri-2.ensures)))
+
+pub push_pairs-returns-in-pairs-3 : goal.push_pairs-returns-in-pairs-3
+push_pairs-returns-in-pairs-3 g t c =
+    let value = shown_as c.args.form.now g.V.LineValue.value in
+    let shown = λ (p : g.row.V.Denot × g.row.V.Denot). value_text (value p.0) ++ codes "=" ++ value_text (value p.1) in
+    let x = c.index-pairs-index in
+    let joins = g.met.L.GrowingLine.joins in
+    let stops = g.met.L.GrowingLine.stops in
+    part_not_put _ _ _ _ stops c.pairs.invariant
+    (joined_first shown c.args.pairs.now c.pairs.index x.result c.pairs-test.true x.is)
+    (joins _ _ _ _ _ _ c.in-Ok-tri.ensures
+    (stops _ _ _ _ _ (joins _ _ _ _ _ _ c.in-Ok-tri-2.ensures c.in-Err-tri-3.ensures)))
+
+pub push_pairs-returns-in-pairs-4 : goal.push_pairs-returns-in-pairs-4
+push_pairs-returns-in-pairs-4 g t c =
+    let value = shown_as c.args.form.now g.V.LineValue.value in
+    let shown = λ (p : g.row.V.Denot × g.row.V.Denot). value_text (value p.0) ++ codes "=" ++ value_text (value p.1) in
+    let x = c.index-pairs-index in
+    let joins = g.met.L.GrowingLine.joins in
+    let keyed = joins _ _ _ _ _ _ c.in-Ok-tri-2.ensures c.in-Ok-tri-3.ensures in
+    part_not_put _ _ _ _ g.met.L.GrowingLine.stops c.pairs.invariant
+    (joined_first shown c.args.pairs.now c.pairs.index x.result c.pairs-test.true x.is)
+    (joins _ _ _ _ _ _ c.in-Ok-tri.ensures (joins _ _ _ _ _ _ keyed c.in-Err-tri-4.ensures))
+
+pub push_pairs-returns : goal.push_pairs-returns
+push_pairs-returns g t c =
+    let value = shown_as c.args.form.now g.V.LineValue.value in
+    none_left g.met.L.GrowingLine.empty c.pairs.invariant
+    (joined_none (λ p. value_text (value p.0) ++ codes "=" ++ value_text (value p.1)) c.args.pairs.now c.pairs.index
+    c.pairs-test.false)
 
 -- ---- what is gone into next is less deep
 

@@ -1,8 +1,10 @@
-use Rattle.std.proofs.Common.{◌≡◌, ◌+◌, ◌*◌, ◌++◌, take, string_bytes, codes}
+use Rattle.std.proofs.Common.{◌+◌, ◌*◌, ◌++◌, drop, codes}
 use Rattle.std.specs.List.{join_by}
 use denote.Param.Weighed.{most}
 use Rattle.trace_lines.specs.Lines.{value_text}
 use Rattle.trace_lines.proofs.ShownForms.{shown_as}
+use Rattle.trace_lines.proofs.GrowingParts.{IsLeft}
+use Rattle.trace_lines.proofs.JoinedLists.{joined_left}
 use Rattle.trace_lines.proofs.Depths.{pair_depth}
 use Rattle.trace_lines.proofs.value.+value.Given as goal
 
@@ -23,12 +25,13 @@ decreases-push_pairs g l = 3 * most (pair_depth g.V.LineValue.depth) l.pairs.now
 
 abbrev pub invariant-push_items-items : goal.invariant-push_items-items
 invariant-push_items-items g l =
-    string_bytes l.out
-    ≡ string_bytes l.initial.out ++ join_by (λ v. value_text (shown_as l.form g.V.LineValue.value v)) (codes ",")
-    (take l.index l.items)
+    let shown = λ (v : g.row.V.Denot). value_text (shown_as l.form g.V.LineValue.value v) in
+    IsLeft g.L.GrowingLine.grows l.initial.out (join_by shown (codes ",") l.items) l.out
+    (joined_left shown l.index (drop l.index l.items))
 
 abbrev pub invariant-push_pairs-pairs : goal.invariant-push_pairs-pairs
 invariant-push_pairs-pairs g l =
     let value = shown_as l.form g.V.LineValue.value in
-    string_bytes l.out ≡ string_bytes l.initial.out
-    ++ join_by (λ p. value_text (value p.0) ++ codes "=" ++ value_text (value p.1)) (codes ",") (take l.index l.pairs)
+    let shown = λ (p : g.row.V.Denot × g.row.V.Denot). value_text (value p.0) ++ codes "=" ++ value_text (value p.1) in
+    IsLeft g.L.GrowingLine.grows l.initial.out (join_by shown (codes ",") l.pairs) l.out
+    (joined_left shown l.index (drop l.index l.pairs))

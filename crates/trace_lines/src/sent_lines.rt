@@ -1,0 +1,134 @@
+//! Lines that are held before they are sent, and sent as they grow.
+
+ghost use Rattle.std.specs.Prelude.{◌≡◌, ◌++◌, [], Ok, string_bytes};
+ghost use Rattle.dial9_trace_format.specs.ShownEvents.{shown_event};
+ghost use Rattle.trace_lines.specs.parts.SentLines.{LineGrows, HoldsEvent, takes_event};
+ghost use Rattle.trace_lines.specs.parts.LineLaws.{line_empty, line_joins, line_stops};
+
+use crate::growing::{GrowingLine, LinePart};
+use crate::resolved::{line_event, push_event_in_full};
+use dial9_trace_format::decoder::{EventSink, RawEvent};
+use std::alloc::Global;
+use trace_values::leb128::{TraceWrite, send_all};
+use trace_values::tri;
+
+/// So many bytes of lines are sent at once. Only the last line that was held goes past it, or the last value of a line.
+pub(crate) const ENOUGH: usize = 65_536;
+
+/// Why a line does not grow.
+#[derive(Clone, Copy)]
+pub(crate) enum LineFault {
+    /// A growth was refused.
+    OutOfMemory,
+    /// The writer failed.
+    Unsent,
+}
+
+/// Why the lines take no more events for now.
+#[derive(Clone, Copy)]
+pub(crate) enum LinesRefusal {
+    /// There are enough of them, this one's among them.
+    Enough,
+    /// This one's was not held.
+    Fault(LineFault),
+}
+
+/// Lines that are held before they are sent, the one that is being made, and their writer. Of a long line a front is
+/// sent before all of it is made.
+#[derive(Drop)]
+pub(crate) struct Lines<'w, W> {
+    pub(crate) line: String,
+    pub(crate) held: String,
+    pub(crate) out: &'w mut W,
+}
+
+impl<'w, W: TraceWrite> GrowingLine for Lines<'w, W> {
+    type Fault = LineFault;
+
+    ghost grows = { LineGrows W.told };
+
+    ghost empty = { line_empty W.told };
+
+    ghost joins = { line_joins W.told };
+
+    ghost stops = { line_stops W.told };
+
+    #[inline(always)]
+    fn put<P: LinePart>(&mut self, part: P) -> Result<(), LineFault> {
+        match part.push_to(&mut self.line) {
+            Ok(()) => Ok(()),
+            Err(_) => Err(LineFault::OutOfMemory),
+        }
+    }
+
+    #[inline(always)]
+    fn put_on<P: LinePart>(&mut self, part: P) -> Result<(), LineFault> {
+        tri!(self.put(part));
+        if self.line.len() < ENOUGH {
+            return Ok(());
+        }
+        self.send_line()
+    }
+
+    fn refuse(&mut self) -> Result<(), LineFault> {
+        Err(LineFault::OutOfMemory)
+    }
+}
+
+impl<'w, W> Lines<'w, W> {
+    /// Lines that are held, for this writer.
+    pub(crate) fn new(alloc: Global, held: String, out: &'w mut W) -> Lines<'w, W>
+        ensures same_writer { result.out.ghost_name ≡ out.entry.ghost_name }
+        ensures untouched { result.out.now ≡ out.old }
+        ensures held { string_bytes result.held ≡ string_bytes held }
+    {
+        let line = String::new(alloc);
+        Lines { line, held, out }
+    }
+}
+
+impl<'w, W: TraceWrite> Lines<'w, W> {
+    // Sends what is held, and what there is of the line.
+    #[inline(never)]
+    fn send_line(&mut self) -> Result<(), LineFault>
+        ensures { LineGrows W.told self.old [] result self.new }
+    {
+        match send_all(self.out, self.held.as_bytes()) {
+            Ok(()) => self.held.clear(),
+            Err(_) => return Err(LineFault::Unsent),
+        }
+        match send_all(self.out, self.line.as_bytes()) {
+            Ok(()) => self.line.clear(),
+            Err(_) => return Err(LineFault::Unsent),
+        }
+        Ok(())
+    }
+
+    // Holds the line of the event, resolved.
+    fn hold(&mut self, event: &RawEvent<'_, '_>) -> Result<(), LineFault>
+        ensures { HoldsEvent W.told self.old (shown_event event.now) result self.new }
+    {
+        self.line.clear();
+        tri!(push_event_in_full(self, &line_event(event)));
+        match self.held.push_str(&self.line) {
+            Ok(()) => Ok(()),
+            Err(_) => Err(LineFault::OutOfMemory),
+        }
+    }
+}
+
+// Holds the line of each event, resolved.
+impl<'a, 'w, W: TraceWrite> EventSink<'a, LinesRefusal> for Lines<'w, W> {
+    ghost step = { takes_event W.told };
+
+    fn event(&mut self, event: &RawEvent<'a, '_>) -> Result<(), LinesRefusal> {
+        match self.hold(event) {
+            Ok(()) => {}
+            Err(fault) => return Err(LinesRefusal::Fault(fault)),
+        }
+        if self.held.len() >= ENOUGH {
+            return Err(LinesRefusal::Enough);
+        }
+        Ok(())
+    }
+}
