@@ -32,7 +32,7 @@ pub fn shows_refused(decoder: &mut Decoder<'_>, place: usize) -> bool {
 }
 
 /// The iterator of events gives nothing.
-fn has_no_event(decoder: &mut Decoder<'_>) -> bool {
+pub fn has_no_event(decoder: &mut Decoder<'_>) -> bool {
     decoder.events().next().is_none()
 }
 

@@ -1,6 +1,7 @@
 //! Frames whose values stay in the input: read at once, and copied.
 
 use crate::tests::calls::decoder_of;
+use crate::tests::mixed::has_no_event;
 use dial9_trace_format::decoder::{DecodedFrame, DecodedFrameRef, Decoder};
 use std::alloc::{AllocError, Global};
 use std::test::Fail;
@@ -19,14 +20,23 @@ fn is_owned(
     Ok(found.to_owned(alloc)? == *frame)
 }
 
-/// The borrowed frames are these, and so are their copies.
+/// The borrowed frame is this one, and so is its copy.
+fn is_that(
+    alloc: Global,
+    found: &DecodedFrameRef<'_>,
+    frame: &DecodedFrame,
+) -> Result<bool, AllocError> {
+    Ok(is_copied(alloc, found)? && is_owned(alloc, found, frame)?)
+}
+
+/// The borrowed frames are these.
 fn are_those(
     alloc: Global,
     found: &[DecodedFrameRef<'_>],
     frames: &[DecodedFrame],
 ) -> Result<bool, AllocError> {
     for (shown, frame) in found.iter().zip(frames) {
-        if !is_copied(alloc, shown)? || !is_owned(alloc, shown, frame)? {
+        if !is_that(alloc, shown, frame)? {
             return Ok(false);
         }
     }
@@ -43,20 +53,20 @@ fn gives_those(
     Ok(are_those(alloc, &found, frames)?)
 }
 
-/// How many events the iterator of events gives.
-fn count_events(decoder: &mut Decoder<'_>) -> Result<usize, Fail> {
-    let mut count: usize = 0;
-    for event in decoder.events() {
-        event?;
-        count = count.saturating_add(1);
-    }
-    Ok(count)
+/// The decoder's iterator of events gives one.
+fn has_event(decoder: &mut Decoder<'_>) -> bool {
+    matches!(decoder.events().next(), Some(Ok(_)))
 }
 
-/// The iterator of events gives so many, to the end.
+/// It gives so many, to the end.
 fn gives_events(alloc: Global, bytes: &[u8], count: usize) -> Result<bool, Fail> {
     let mut decoder = decoder_of(alloc, bytes)?;
-    Ok(count_events(&mut decoder)? == count && decoder.position() == bytes.len())
+    for _ in 0..count {
+        if !has_event(&mut decoder) {
+            return Ok(false);
+        }
+    }
+    Ok(has_no_event(&mut decoder) && decoder.position() == bytes.len())
 }
 
 /// How many of the frames are events.
