@@ -1,7 +1,6 @@
 //! Worked examples of the format.
 
 mod ample;
-mod borrowed;
 mod calls;
 mod checks;
 mod copies;

@@ -1,7 +1,7 @@
 //! What several tests compare. Each function holds one comparison or two, so that proofs of those that make many stay
 //! small.
 
-use crate::tests::calls::{all, decoder_of, next};
+use crate::tests::calls::{all, decoder_of};
 use dial9_trace_format::decoder::Decoder;
 use dial9_trace_format::leb128::EncodeError;
 use std::alloc::Global;
@@ -21,11 +21,6 @@ pub fn check_bytes(rt: &impl Abort, found: &[u8], wanted: &[u8]) {
 /// The call was refused by this fault.
 pub fn check_refused(rt: &impl Abort, found: Option<EncodeError>, wanted: EncodeError) {
     assert!(rt; found == Some(wanted));
-}
-
-/// No frame stands at the decoder's place, which is then this one.
-pub fn is_ended(decoder: &mut Decoder<'_>, place: usize) -> Result<bool, Fail> {
-    Ok(next(decoder)?.is_none() && Decoder::position(decoder) == place)
 }
 
 /// How many frames `decode_all` gives.

@@ -1,61 +1,103 @@
 //! Kinds of readers in turn on one decoder, and iterators after their end.
 
-use crate::tests::borrowed::{next_ref, step};
-use crate::tests::calls::{decoder_of, next};
-use crate::tests::checks::is_ended;
-use crate::tests::sinks::{Adding, is_refused, is_shown};
+use crate::tests::calls::decoder_of;
+use crate::tests::sinks::{refuses, shows};
 use crate::tests::traces::{CONFLICT, THREE_EVENTS};
 use dial9_trace_format::codec::WireTypeId;
-use dial9_trace_format::decoder::{DecodeErrorKind, Decoder};
+use dial9_trace_format::decoder::{DecodeError, DecodeErrorKind, Decoder};
+use std::alloc::Global;
 use std::test::Fail;
 
-/// The decoder's iterator of events gives an event, which ends here.
-pub fn gives_event(decoder: &mut Decoder<'_>, place: usize) -> bool {
-    let is_event = matches!(decoder.events().next(), Some(Ok(_)));
-    is_event && Decoder::position(decoder) == place
+/// A reader of a decoder.
+#[derive(Clone, Copy)]
+pub enum Reader {
+    /// `Decoder::next_frame`.
+    Owned,
+    /// `Decoder::next_frame_ref`.
+    Borrowed,
+    /// The iterator of frames.
+    Frames,
+    /// The iterator of events.
+    Events,
+    /// A sink that refuses each event, which is then the item.
+    Refusing,
+    /// A visitor, who is shown all that is left.
+    Shown,
 }
 
-/// The decoder gives a frame with borrowed values, which ends here.
-pub fn gives_borrowed(decoder: &mut Decoder<'_>, place: usize) -> Result<bool, Fail> {
-    Ok(next_ref(decoder)?.is_some() && Decoder::position(decoder) == place)
+/// What a reader gives.
+#[derive(Clone, Copy, PartialEq, Eq)]
+pub enum Given {
+    Item,
+    Nothing,
+    /// An error of this kind, here.
+    Told(DecodeErrorKind, usize),
 }
 
-/// The decoder gives a frame with owned values, which ends here.
-pub fn gives_owned(decoder: &mut Decoder<'_>, place: usize) -> Result<bool, Fail> {
-    Ok(next(decoder)?.is_some() && Decoder::position(decoder) == place)
+/// The error is given.
+pub fn told(error: DecodeError) -> Given {
+    Given::Told(error.kind, error.pos)
 }
 
-/// A sink refuses the next event, which ends here.
-pub fn shows_refused(decoder: &mut Decoder<'_>, place: usize) -> bool {
-    let mut sink = Adding { left: 0, total: 0 };
-    is_refused(decoder, &mut sink, place)
+/// What a call gives that may give a frame.
+fn item<T: Drop>(answer: Result<Option<T>, DecodeError>) -> Given {
+    match answer {
+        Ok(Some(_)) => Given::Item,
+        Ok(None) => Given::Nothing,
+        Err(error) => told(error),
+    }
 }
 
-/// The iterator of events gives nothing.
-pub fn has_no_event(decoder: &mut Decoder<'_>) -> bool {
-    decoder.events().next().is_none()
+/// What an iterator gives.
+fn step<T: Drop>(answer: Option<Result<T, DecodeError>>) -> Given {
+    match answer {
+        Some(Ok(_)) => Given::Item,
+        Some(Err(error)) => told(error),
+        None => Given::Nothing,
+    }
 }
 
-/// Neither iterator gives anything.
-pub fn gives_nothing(decoder: &mut Decoder<'_>) -> bool {
-    step(decoder).is_none() && has_no_event(decoder)
+/// What the reader gives next.
+pub fn give(decoder: &mut Decoder<'_>, reader: Reader) -> Given {
+    match reader {
+        Reader::Owned => item(decoder.next_frame()),
+        Reader::Borrowed => item(decoder.next_frame_ref()),
+        Reader::Frames => step(decoder.next()),
+        Reader::Events => step(decoder.events().next()),
+        Reader::Refusing => refuses(decoder),
+        Reader::Shown => shows(decoder),
+    }
 }
 
-/// The decoder gives the schema and the events to readers in turn, and then nothing.
-fn is_read_in_turn(decoder: &mut Decoder<'_>) -> Result<bool, Fail> {
-    let is_read = gives_owned(decoder, 18)?
-        && shows_refused(decoder, 25)
-        && gives_borrowed(decoder, 33)?
-        && gives_event(decoder, 40);
-    Ok(is_read && gives_nothing(decoder) && is_ended(decoder, 40)?)
+/// A reader, what it gives, and where the decoder is then.
+pub type Row = (Reader, Given, usize);
+
+/// The readers give that, one after the other.
+pub fn read(decoder: &mut Decoder<'_>, rows: &[Row]) -> bool {
+    for (reader, given, place) in rows {
+        if give(decoder, *reader) != *given || Decoder::position(decoder) != *place {
+            return false;
+        }
+    }
+    true
 }
 
-#[test]
-fn readers_in_turn(rt: HostRuntime) -> Result<(), Fail> {
-    let mut decoder = decoder_of(rt.alloc(), &THREE_EVENTS)?;
-    assert!(rt; is_read_in_turn(&mut decoder)?);
-    Ok(())
+/// A new decoder of the bytes is read so.
+fn is_read(alloc: Global, bytes: &[u8], rows: &[Row]) -> Result<bool, Fail> {
+    let mut decoder = decoder_of(alloc, bytes)?;
+    Ok(read(&mut decoder, rows))
 }
+
+/// The schema, and the events, one of which a sink refuses.
+const IN_TURN: [Row; 7] = [
+    (Reader::Owned, Given::Item, 18),
+    (Reader::Refusing, Given::Item, 25),
+    (Reader::Borrowed, Given::Item, 33),
+    (Reader::Events, Given::Item, 40),
+    (Reader::Frames, Given::Nothing, 40),
+    (Reader::Events, Given::Nothing, 40),
+    (Reader::Owned, Given::Nothing, 40),
+];
 
 /// The one event, and a byte that begins no frame.
 const NO_FRAME: [u8; 27] = [
@@ -63,43 +105,58 @@ const NO_FRAME: [u8; 27] = [
     0x00, 0x76, 0x09, 0x02, 0x00, 0x01, 0xE8, 0x03, 0x00, 0x2A, 0xFF,
 ];
 
-/// Iterators give nothing, and a sink is told this fault, which they do not tell: again and again.
-fn tells_sinks(decoder: &mut Decoder<'_>, kind: &DecodeErrorKind, place: usize) -> bool {
-    gives_nothing(decoder)
-        && is_shown(decoder, (0, 0), kind, place)
-        && gives_nothing(decoder)
-        && is_shown(decoder, (0, 0), kind, place)
-}
+const NO_FRAME_HERE: Given = Given::Told(DecodeErrorKind::NoFrame(0xFF), 26);
 
-/// No frame stands after the event. Iterators end there, again and again, and a sink is told the fault each time.
+/// No frame stands after the event. Iterators end there, again and again, and a visitor is told the fault each time.
+const BEFORE_NO_FRAME: [Row; 7] = [
+    (Reader::Events, Given::Item, 26),
+    (Reader::Frames, Given::Nothing, 26),
+    (Reader::Events, Given::Nothing, 26),
+    (Reader::Shown, NO_FRAME_HERE, 26),
+    (Reader::Frames, Given::Nothing, 26),
+    (Reader::Events, Given::Nothing, 26),
+    (Reader::Shown, NO_FRAME_HERE, 26),
+];
+
+const CONFLICT_HERE: Given = Given::Told(DecodeErrorKind::Conflict(WireTypeId(256)), 40);
+
+/// A schema that conflicts stands after the event. An iterator of events tells it once, and a visitor is told it each
+/// time.
+const BEFORE_CONFLICT: [Row; 8] = [
+    (Reader::Events, Given::Item, 26),
+    (Reader::Events, CONFLICT_HERE, 40),
+    (Reader::Frames, Given::Nothing, 40),
+    (Reader::Events, Given::Nothing, 40),
+    (Reader::Shown, CONFLICT_HERE, 40),
+    (Reader::Frames, Given::Nothing, 40),
+    (Reader::Events, Given::Nothing, 40),
+    (Reader::Shown, CONFLICT_HERE, 40),
+];
+
+/// An iterator of frames tells it once, and a reader each time.
+const TOLD_ONCE: [Row; 6] = [
+    (Reader::Borrowed, Given::Item, 19),
+    (Reader::Owned, Given::Item, 26),
+    (Reader::Frames, CONFLICT_HERE, 40),
+    (Reader::Frames, Given::Nothing, 40),
+    (Reader::Events, Given::Nothing, 40),
+    (Reader::Borrowed, CONFLICT_HERE, 40),
+];
+
 #[test]
-fn iterators_before_no_frame(rt: HostRuntime) -> Result<(), Fail> {
-    let mut decoder = decoder_of(rt.alloc(), &NO_FRAME)?;
-    assert!(rt; gives_event(&mut decoder, 26));
-    assert!(rt; tells_sinks(&mut decoder, &DecodeErrorKind::NoFrame(0xFF), 26));
+fn readers_in_turn(rt: HostRuntime) -> Result<(), Fail> {
+    assert!(rt; is_read(rt.alloc(), &THREE_EVENTS, &IN_TURN)?);
+    assert!(rt; is_read(rt.alloc(), &NO_FRAME, &BEFORE_NO_FRAME)?);
+    assert!(rt; is_read(rt.alloc(), &CONFLICT, &BEFORE_CONFLICT)?);
+    assert!(rt; is_read(rt.alloc(), &CONFLICT, &TOLD_ONCE)?);
     Ok(())
 }
 
-/// The iterator of events tells the conflict of wire id 256.
-fn gives_conflict(decoder: &mut Decoder<'_>) -> bool {
-    match decoder.events().next() {
-        Some(Err(fault)) => fault.kind == DecodeErrorKind::Conflict(WireTypeId(256)),
-        _ => false,
-    }
-}
-
-/// At once the decoder gives no borrowed frames.
-fn gives_none_at_once(decoder: &mut Decoder<'_>) -> Result<bool, Fail> {
-    Ok(decoder.decode_all_ref()?.is_empty())
-}
-
-/// A schema that conflicts stands after the event. An iterator of events tells it once, and a sink each time.
+/// After a conflict no borrowed frames are given at once.
 #[test]
-fn events_before_a_conflict(rt: HostRuntime) -> Result<(), Fail> {
+fn none_at_once_after_a_conflict(rt: HostRuntime) -> Result<(), Fail> {
     let mut decoder = decoder_of(rt.alloc(), &CONFLICT)?;
-    assert!(rt; gives_event(&mut decoder, 26) && gives_conflict(&mut decoder));
-    let conflict = DecodeErrorKind::Conflict(WireTypeId(256));
-    assert!(rt; tells_sinks(&mut decoder, &conflict, 40));
-    assert!(rt; gives_none_at_once(&mut decoder)?);
+    assert!(rt; read(&mut decoder, &BEFORE_CONFLICT));
+    assert!(rt; decoder.decode_all_ref()?.is_empty());
     Ok(())
 }

@@ -2,10 +2,9 @@
 
 use crate::tests::calls::{decoder_of, into_encoder, put_one};
 use crate::tests::checks::{check_bytes, check_number, check_refused};
-use crate::tests::mixed::{gives_borrowed, gives_event, gives_owned, shows_refused};
+use crate::tests::mixed::{Given, Reader, Row, read};
 use crate::tests::told::{breaking, check_told, stepping};
 use crate::tests::traces::{ONE_EVENT, THREE_EVENTS, ev, one_field};
-use dial9_trace_format::decoder::Decoder;
 use dial9_trace_format::encoder::{Encoder, RawEncoder, Schema};
 use dial9_trace_format::leb128::EncodeError;
 use dial9_trace_format::types::{FieldType, FieldValue};
@@ -18,19 +17,17 @@ use trace_values::leb128::Faults;
 
 /// A frame is read with owned values, one with borrowed values, one by an iterator, and one is shown to a sink, which
 /// refuses it.
-fn is_read_in_turn(decoder: &mut Decoder<'_>) -> Result<bool, Fail> {
-    Ok(
-        gives_owned(decoder, 18)?
-            && gives_borrowed(decoder, 25)?
-            && gives_event(decoder, 33)
-            && shows_refused(decoder, 40),
-    )
-}
+const IN_TURN: [Row; 4] = [
+    (Reader::Owned, Given::Item, 18),
+    (Reader::Borrowed, Given::Item, 25),
+    (Reader::Events, Given::Item, 33),
+    (Reader::Refusing, Given::Item, 40),
+];
 
 /// An encoder that goes on after those frames.
 fn encoder_after(rt: &impl Abort, alloc: Global) -> Result<Encoder, Fail> {
     let mut decoder = decoder_of(alloc, &THREE_EVENTS)?;
-    assert!(rt; is_read_in_turn(&mut decoder)?);
+    assert!(rt; read(&mut decoder, &IN_TURN));
     Ok(into_encoder(alloc, decoder)?)
 }
 

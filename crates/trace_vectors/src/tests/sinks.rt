@@ -1,6 +1,7 @@
 //! What readers do that show each event to a sink.
 
 use crate::tests::calls::decoder_of;
+use crate::tests::mixed::{Given, told};
 use crate::tests::traces::THREE_EVENTS;
 use dial9_trace_format::decoder::{
     DecodeError, DecodeErrorKind, Decoder, EventSink, EventVisitor, RawEvent, TryForEachError,
@@ -30,34 +31,17 @@ pub fn is_error(error: &DecodeError, kind: &DecodeErrorKind, place: usize) -> bo
     error.kind == *kind && error.pos == place
 }
 
-/// A visitor is shown events, and then this error comes at this place.
-fn tells_error<'a>(
-    decoder: &mut Decoder<'a>,
-    visitor: &mut Seen,
-    kind: &DecodeErrorKind,
-    place: usize,
-) -> bool {
-    match decoder.for_each_event(visitor) {
-        Ok(()) => false,
-        Err(error) => is_error(&error, kind, place),
-    }
-}
-
-/// A visitor is shown so many events, whose times are so much together, and then this error comes at this place,
-/// where the decoder stays.
-pub fn is_shown(
-    decoder: &mut Decoder<'_>,
-    seen: (u64, u64),
-    kind: &DecodeErrorKind,
-    place: usize,
-) -> bool {
+/// What a visitor is shown, or told.
+pub fn shows(decoder: &mut Decoder<'_>) -> Given {
     let mut visitor = Seen {
         events: 0,
         times: 0,
     };
-    let is_told = tells_error(decoder, &mut visitor, kind, place);
-    let is_placed = Decoder::position(decoder) == place;
-    is_told && is_placed && (visitor.events, visitor.times) == seen
+    match decoder.for_each_event(&mut visitor) {
+        Err(error) if visitor.events == 0 => told(error),
+        Ok(()) if visitor.events == 0 => Given::Nothing,
+        _ => Given::Item,
+    }
 }
 
 /// Adds the numbers of events, and refuses the event after so many.
@@ -90,10 +74,21 @@ impl<'a> EventSink<'a, Unwanted> for Adding {
 }
 
 /// The sink refuses an event, which ends here.
-pub fn is_refused(decoder: &mut Decoder<'_>, sink: &mut Adding, place: usize) -> bool {
+fn is_refused(decoder: &mut Decoder<'_>, sink: &mut Adding, place: usize) -> bool {
     let refused: Result<(), TryForEachError<Unwanted>> = decoder.try_for_each_event(sink);
     let is_unwanted = matches!(refused, Err(TryForEachError::User(Unwanted)));
     is_unwanted && Decoder::position(decoder) == place
+}
+
+/// What a sink is given that refuses the next event.
+pub fn refuses(decoder: &mut Decoder<'_>) -> Given {
+    let mut sink = Adding { left: 0, total: 0 };
+    let answer: Result<(), TryForEachError<Unwanted>> = decoder.try_for_each_event(&mut sink);
+    match answer {
+        Err(TryForEachError::User(Unwanted)) => Given::Item,
+        Err(TryForEachError::Decode(error)) => told(error),
+        Ok(()) => Given::Nothing,
+    }
 }
 
 /// A sink takes the events that are left, whose numbers are so much together.

@@ -1,7 +1,7 @@
 //! Frames whose values stay in the input: read at once, and copied.
 
 use crate::tests::calls::decoder_of;
-use crate::tests::mixed::has_no_event;
+use crate::tests::mixed::{Given, Reader, give, read};
 use dial9_trace_format::decoder::{DecodedFrame, DecodedFrameRef, Decoder};
 use std::alloc::{AllocError, Global};
 use std::test::Fail;
@@ -53,20 +53,18 @@ fn gives_those(
     Ok(are_those(alloc, &found, frames)?)
 }
 
-/// The decoder's iterator of events gives one.
-fn has_event(decoder: &mut Decoder<'_>) -> bool {
-    matches!(decoder.events().next(), Some(Ok(_)))
-}
-
-/// It gives so many, to the end.
+/// The iterator of events gives so many, to the end.
 fn gives_events(alloc: Global, bytes: &[u8], count: usize) -> Result<bool, Fail> {
     let mut decoder = decoder_of(alloc, bytes)?;
     for _ in 0..count {
-        if !has_event(&mut decoder) {
+        if give(&mut decoder, Reader::Events) != Given::Item {
             return Ok(false);
         }
     }
-    Ok(has_no_event(&mut decoder) && decoder.position() == bytes.len())
+    Ok(read(
+        &mut decoder,
+        &[(Reader::Events, Given::Nothing, bytes.len())],
+    ))
 }
 
 /// How many of the frames are events.
