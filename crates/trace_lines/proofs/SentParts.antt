@@ -126,16 +126,16 @@ line_made {W} told s m l {x} {e} none is went =
 
 -- and then held
 pub event_held :
-    {W : Type 0} (told : W → Account) (s m : Lines W) (h : String Global) {e : ShownEvent} →
+    {W : Type 0} (told : W → Account) (s m : Lines W) (h : String Global) (e : ShownEvent) →
     GoOut told s m (string_bytes s.held ++ line (resolved_line e)) (unsent m) (Ok tt) →
     string_bytes h ≡ unsent m → HoldsEvent told s e (Ok tt) (record m { held = h })
-event_held told s m h made is =
+event_held told s m h e made is =
     record { same_writer = made.same_writer; bytes = line_held is made.bytes }
 
 -- or not, where a growth was refused
 pub event_not_held :
-    {W : Type 0} (told : W → Account) (s m : Lines W) (h : String Global) {e : ShownEvent} →
+    {W : Type 0} (told : W → Account) (s m : Lines W) (h : String Global) (e : ShownEvent) →
     GoOut told s m (string_bytes s.held ++ line (resolved_line e)) (unsent m) (Ok tt) →
     string_bytes h ≡ string_bytes m.held → HoldsEvent told s e (Err OutOfMemory) (record m { held = h })
-event_not_held told s m h made is =
+event_not_held told s m h e made is =
     record { same_writer = made.same_writer; bytes = line_not_held (string_bytes m.line) is made.bytes }

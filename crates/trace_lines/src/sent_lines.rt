@@ -8,7 +8,6 @@ ghost use Rattle.trace_lines.specs.parts.LineLaws.{line_empty, line_joins, line_
 use crate::growing::{GrowingLine, LinePart};
 use crate::resolved::{line_event, push_event_in_full};
 use dial9_trace_format::decoder::{EventSink, RawEvent};
-use std::alloc::Global;
 use trace_values::leb128::{TraceWrite, send_all};
 use trace_values::tri;
 
@@ -72,18 +71,6 @@ impl<'w, W: TraceWrite> GrowingLine for Lines<'w, W> {
 
     fn refuse(&mut self) -> Result<(), LineFault> {
         Err(LineFault::OutOfMemory)
-    }
-}
-
-impl<'w, W> Lines<'w, W> {
-    /// Lines that are held, for this writer.
-    pub(crate) fn new(alloc: Global, held: String, out: &'w mut W) -> Lines<'w, W>
-        ensures same_writer { result.out.ghost_name ≡ out.entry.ghost_name }
-        ensures untouched { result.out.now ≡ out.old }
-        ensures held { string_bytes result.held ≡ string_bytes held }
-    {
-        let line = String::new(alloc);
-        Lines { line, held, out }
     }
 }
 

@@ -3,7 +3,7 @@ use Rattle.std.specs.List.{join_by}
 use Rattle.trace_values.proofs.ValueSizes.{falls_3, steps_3}
 use Rattle.trace_lines.specs.Lines.{value_text}
 use Rattle.trace_lines.proofs.Depths.{item_in, key_in, value_in, most_below, most_pair_below}
-use Rattle.trace_lines.proofs.GrowingParts.{IsLeft, all_left, part_put, part_not_put, none_left}
+use Rattle.trace_lines.proofs.GrowingParts.{all_left, part_put, part_not_put, none_left}
 use Rattle.trace_lines.proofs.JoinedLists.{joined_all, joined_first, joined_none}
 use Rattle.trace_lines.proofs.ShownForms.{shown_as, text_of_shown_list, text_of_shown_map}
 use Rattle.trace_lines.proofs.value.+value.Goals as goal
