@@ -1,6 +1,6 @@
 //! Lines that are made part by part.
 
-ghost use Rattle.std.specs.Prelude.{◌≡◌, ◌++◌, ℕ, List, [], Result, Ok, Err, string_bytes};
+ghost use Rattle.std.specs.Prelude.{◌++◌, ℕ, List, [], Result, Ok, Err};
 ghost use Rattle.trace_lines.specs.Appending.{AppendsText};
 ghost use Rattle.trace_lines.specs.parts.Lines.{comma_before};
 ghost use Rattle.trace_lines.specs.parts.TextLaws.{text_empty, text_joins, text_stops};

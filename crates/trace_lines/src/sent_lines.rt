@@ -1,6 +1,6 @@
 //! Lines that are held before they are sent, and sent as they grow.
 
-ghost use Rattle.std.specs.Prelude.{◌≡◌, ◌++◌, [], Ok, string_bytes};
+ghost use Rattle.std.specs.Prelude.{[]};
 ghost use Rattle.dial9_trace_format.specs.ShownEvents.{shown_event};
 ghost use Rattle.trace_lines.specs.parts.SentLines.{LineGrows, HoldsEvent, takes_event};
 ghost use Rattle.trace_lines.specs.parts.LineLaws.{line_empty, line_joins, line_stops};
