@@ -2,6 +2,7 @@
 
 ghost use Rattle.std.specs.Prelude.{◌≡◌, []};
 
+use crate::clocks::FileClock;
 use crate::names::Names;
 use crate::schemas::PageSchema;
 use json::Writer;
@@ -24,6 +25,9 @@ pub struct PageData {
     pub(crate) schemas: Vec<PageSchema>,
     // where the schema of an event with such a wire id stood last
     pub(crate) guesses: [usize; 256],
+    // those of the files that ended, and how many events these have
+    pub(crate) clocks: Vec<FileClock>,
+    pub(crate) ended: usize,
     // whether no growth was refused
     pub(crate) is_whole: bool,
     ghost starts: { text.before ≡ [] },

@@ -4,9 +4,9 @@ use Rattle.trace_page.proofs.Told.{held_more}
 use Rattle.trace_page.proofs.data.PageData.add.Goals as goal
 
 pub returns-clause-added : goal.returns-clause-added
-returns-clause-added c = λ events holds.
+returns-clause-added c = λ files rest holds.
     let put = c.in_ok-put_values.ensures in
-    held_more events (record { shown = owned_event c.args.event.now; bytes = c.args.bytes }) c.args.self.now _ (record {
+    held_more files rest (record { shown = owned_event c.args.event.now; bytes = c.args.bytes }) c.args.self.now _ (record {
       own = put.tokens.all;
       place = c.in_ok-place.place;
       whole = refl;
@@ -16,5 +16,7 @@ returns-clause-added c = λ events holds.
       times = search rules;
       places = search rules;
       schemas = search rules;
+      clocks = refl;
+      ended = refl;
     })
     holds
