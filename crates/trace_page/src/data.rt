@@ -10,6 +10,7 @@ use std::alloc::Global;
 
 mod calls;
 mod counting;
+mod files;
 mod writing;
 
 /// The data of a page that is told events (viewer/DATA.md).

@@ -8,7 +8,6 @@ ghost use Rattle.trace_page.specs.Files.{PageFile, with_rest};
 ghost use Rattle.trace_page.specs.Holding.{Holds, IsSpoiled};
 ghost use Rattle.trace_page.specs.Pages.{IsPageText};
 
-use crate::clocks::FileClock;
 use crate::columns::start_of;
 use crate::data::PageData;
 use crate::data::counting::{count_in, guess_of};
@@ -69,43 +68,6 @@ impl PageData {
         )?;
         self.is_whole = true;
         Ok(())
-    }
-
-    /// Ends a file: its events are those that were taken since the file before it ended. It has a clock that stood at
-    /// 0 so many nanoseconds after the beginning of 1970, or none that is known. `AllocError` where a growth was
-    /// refused: then the data is spoiled.
-    pub fn end_file(&mut self, zero: Option<i64>) -> Result<(), AllocError>
-        ensures ended { OnOk result ((files : List PageFile) (rest : List PageEvent)
-            → Holds self.old files rest
-            → Holds self.new (files ++ record { events = rest; zero = zero } ∷ []) []) }
-        ensures spoiled { OnErr result (IsSpoiled self.new) }
-        ensures refused { IsSpoiled self.old → IsErr result }
-    {
-        if !self.is_whole {
-            return Err(AllocError);
-        }
-        self.is_whole = false;
-        let first = self.ended;
-        self.clocks.push(FileClock { first, zero })?;
-        self.ended = self.times.len();
-        self.is_whole = true;
-        Ok(())
-    }
-
-    // Ends the file of the events that were taken since a file ended, if there are any, with no clock.
-    fn end_rest(&mut self) -> Result<(), AllocError>
-        ensures ended { OnOk result ((files : List PageFile) (rest : List PageEvent)
-            → Holds self.old files rest → Holds self.new (with_rest files rest) []) }
-        ensures refused { IsSpoiled self.old → IsErr result }
-    {
-        if !self.is_whole {
-            return Err(AllocError);
-        }
-        if self.ended < self.times.len() {
-            self.end_file(None)
-        } else {
-            Ok(())
-        }
     }
 
     /// The text of the data, not escaped yet, under a name, and with why reading ended where that was before the end of
