@@ -38,7 +38,8 @@ whole p =
     object_json
     ((codes "format", number (decimal 1)) ∷ (codes "events", columns_json p.values p.times p.places)
     ∷ (codes "stacks", list_json p.stacks) ∷ (codes "strings", list_json (list_map string p.tables.strings))
-    ∷ (codes "schemas", list_json (list_map schema_json p.schemas)) ∷ (codes "clocks", list_json (list_map clock_json p.clocks))
+    ∷ (codes "schemas", list_json (list_map schema_json p.schemas))
+    ∷ (codes "clocks", list_json (list_map clock_json p.clocks))
     ∷ (codes "start", string (decimal (start_of p.times))) ∷ (codes "end", text_or_null p.end)
     ∷ (codes "name", string p.name) ∷ [])
 
@@ -71,7 +72,8 @@ six_parts a b c d e f g = simp append_assoc
 abbrev rest_of : Parts → List Token
 rest_of p =
     member_tokens (codes "schemas", list_json (list_map schema_json p.schemas))
-    ++ (member_tokens (codes "clocks", list_json (list_map clock_json p.clocks)) ++ last_tokens (start_of p.times) p.name p.end)
+    ++ (member_tokens (codes "clocks", list_json (list_map clock_json p.clocks))
+    ++ last_tokens (start_of p.times) p.name p.end)
 
 parts_of : (p : Parts) → json_tokens (whole p)
     ≡ head_tokens ++ (flat_map json_tokens p.values
@@ -89,5 +91,6 @@ whole_written p all w =
     rw (w.last, w.clocks, w.schemas, w.lists, w.columns, w.values)
     (six_parts head_tokens (flat_map json_tokens p.values) (columns_end p.times p.places)
     (lists_tokens p.tables p.stacks) (member_tokens (codes "schemas", list_json (list_map schema_json p.schemas)))
-    (member_tokens (codes "clocks", list_json (list_map clock_json p.clocks))) (last_tokens (start_of p.times) p.name p.end)
+    (member_tokens (codes "clocks", list_json (list_map clock_json p.clocks)))
+    (last_tokens (start_of p.times) p.name p.end)
     ∙ sym (parts_of p))

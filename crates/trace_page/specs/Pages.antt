@@ -57,7 +57,8 @@ pub record IsPageJson (files : List PageFile) (name : List ℕ) (end : Option (L
   pub is : j ≡ object_json
       ((codes "format", number (decimal 1)) ∷ (codes "events", columns_json values (times_of (events_of files)) places)
       ∷ (codes "stacks", list_json stacks) ∷ (codes "strings", list_json (list_map string tables.strings))
-      ∷ (codes "schemas", list_json (list_map schema_json schemas)) ∷ (codes "clocks", list_json (list_map clock_json (clocks_of 0 files)))
+      ∷ (codes "schemas", list_json (list_map schema_json schemas))
+      ∷ (codes "clocks", list_json (list_map clock_json (clocks_of 0 files)))
       ∷ (codes "start", string (decimal (start_of (times_of (events_of files))))) ∷ (codes "end", text_or_null end)
       ∷ (codes "name", string name) ∷ [])
 

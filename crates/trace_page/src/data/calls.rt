@@ -39,8 +39,8 @@ impl PageData {
         })
     }
 
-    /// Takes an event of so many bytes, of the file that has not ended. `AllocError` where a growth was refused: then the data is spoiled, and each
-    /// later call answers `AllocError` too.
+    /// Takes an event of so many bytes, of the file that has not ended. `AllocError` where a growth was refused: then
+    /// the data is spoiled, and each later call answers `AllocError` too.
     pub fn add(&mut self, event: &OwnedEvent<'_>, bytes: u64) -> Result<(), AllocError>
         ensures added { OnOk result ((files : List PageFile) (rest : List PageEvent)
             → Holds self.old files rest → Holds self.new files
