@@ -1,7 +1,6 @@
 //! The data of a page that shows a trace (viewer/DATA.md).
 #![tactic(auto)]
 
-mod clocks;
 mod columns;
 pub mod data;
 pub mod escaping;
