@@ -21,3 +21,4 @@ mod FrameLines
 mod PlainRuns
 mod GrowingParts
 mod SentParts
+mod SpelledParts

@@ -1,0 +1,445 @@
+-- Parts of lines that are appended as they are read from bytes.
+use Rattle.std.proofs.Common.{◌≡◌, ◌∙◌, ℕ, suc, ◌+◌, ◌-◌, ◌<◌, ◌≤◌, List, [], ◌∷◌, ◌++◌, drop, Option, Some, None, Result, Ok}
+use Rattle.std.proofs.Common.{Err, codes, map as list_map, refl, sym, ap, subst, add-one, arith}
+use Rattle.std.specs.Borrow.{Bor}
+use Rattle.std.specs.List.{join_by}
+use Rattle.trace_values.specs.declared.types.field_type.FieldType.{FieldType}
+use Rattle.trace_values.specs.declared.types.field_type.FieldType.TheVariants as types
+use Rattle.trace_values.specs.FieldTypes.{from_tag, inner}
+use Rattle.trace_values.specs.Reading.{◌>>=◌, InnerReading, as_value, count_at, item_at, many_at, pair_at, plain_at, times_at}
+use Rattle.trace_values.specs.Reading.{value_at, values_to_items, values_to_pairs}
+use Rattle.trace_values.specs.Limits.{most_items}
+use Rattle.trace_values.specs.Values.{Value, owned_reader, list, map, IsValue}
+use Rattle.trace_values.proofs.OptionsAndBytes.{bind_some, some_is}
+use Rattle.trace_values.proofs.ValuesAsRead.{value_again}
+use Rattle.trace_lines.specs.Lines.{value_text}
+use Rattle.trace_lines.specs.parts.Lines.{comma_before}
+use Rattle.trace_lines.specs.parts.SpelledLines.{PutsRead, pair_value_text}
+use Rattle.trace_lines.proofs.GrowingParts.{Growth, Empty, Joins, Stops, IsLeft, all_left, part_put, part_not_put}
+use Rattle.trace_lines.proofs.GrowingParts.{none_left}
+use Rattle.trace_lines.proofs.JoinedLists.{joined_all, joined_left, left_later}
+use Rattle.trace_lines.proofs.ValueTexts.{text_of_list, text_of_map}
+
+-- ---- answers
+
+-- what is read, as it is told
+abbrev Read : Type 0 → Type 0
+Read A = Option (A × List ℕ)
+
+-- all of it was appended, whatever it is
+pub puts_all :
+    {S E A : Type 0} {grows : Growth S E} {text : A → List ℕ} (o : Read A) {s t : S} (rest : Bor (List ℕ))
+    → ((x : A × List ℕ) → o ≡ Some x → grows s (text x.0) (Ok tt) t × (rest.now ≡ x.1))
+    → PutsRead grows text o s t (Ok rest)
+puts_all None rest h = tt
+puts_all (Some x) rest h = h x refl
+
+-- or it was not
+pub puts_not :
+    {S E A : Type 0} {grows : Growth S E} {text : A → List ℕ} (o : Read A) {s t : S} (e : E)
+    → ((x : A × List ℕ) → o ≡ Some x → grows s (text x.0) (Err e) t) → PutsRead grows text o s t (Err e)
+puts_not None e h = tt
+puts_not (Some x) e h = h x refl
+
+-- where a growth was refused no text was appended
+pub puts_refused :
+    {S E A : Type 0} {grows : Growth S E} {text : A → List ℕ} (o : Read A) {s t : S} (e : E)
+    → ((put : List ℕ) → grows s put (Err e) t) → PutsRead grows text o s t (Err e)
+puts_refused {text = text} o e h = puts_not o e (λ x is. h (text x.0))
+
+-- what an answer says of what is read
+pub was_put :
+    {S E A : Type 0} {grows : Growth S E} {text : A → List ℕ} (o : Read A) {s t : S} (rest : Bor (List ℕ))
+    {x : A × List ℕ} → PutsRead grows text o s t (Ok rest) → o ≡ Some x
+    → grows s (text x.0) (Ok tt) t × (rest.now ≡ x.1)
+was_put {grows = grows} {text} o {s} {t} rest p is =
+    subst (λ (o : Read _). PutsRead grows text o s t (Ok rest)) is p
+
+pub was_not_put :
+    {S E A : Type 0} {grows : Growth S E} {text : A → List ℕ} (o : Read A) {s t : S} (e : E) {x : A × List ℕ}
+    → PutsRead grows text o s t (Err e) → o ≡ Some x → grows s (text x.0) (Err e) t
+was_not_put {grows = grows} {text} o {s} {t} e p is =
+    subst (λ (o : Read _). PutsRead grows text o s t (Err e)) is p
+
+-- ---- a value by its type
+
+-- a type that is no list and no map is read alike, however items are
+plain_alike :
+    (f h : InnerReading) (t : FieldType) (s : List ℕ) → (t ≡ types.DynamicList → ⊥) → (t ≡ types.DynamicMap → ⊥)
+    → plain_at owned_reader f t s ≡ plain_at owned_reader h t s
+unfolding plain_at
+plain_alike f h types.I64 s no_list no_map = refl
+plain_alike f h types.F64 s no_list no_map = refl
+plain_alike f h types.Bool s no_list no_map = refl
+plain_alike f h types.String s no_list no_map = refl
+plain_alike f h types.Bytes s no_list no_map = refl
+plain_alike f h types.PooledStackFrames s no_list no_map = refl
+plain_alike f h types.PooledString s no_list no_map = refl
+plain_alike f h types.StackFrames s no_list no_map = refl
+plain_alike f h types.Varint s no_list no_map = refl
+plain_alike f h types.StringMap s no_list no_map = refl
+plain_alike f h types.U8 s no_list no_map = refl
+plain_alike f h types.U16 s no_list no_map = refl
+plain_alike f h types.U32 s no_list no_map = refl
+plain_alike f h types.DynamicList s no_list no_map = absurd (no_list refl)
+plain_alike f h types.DynamicMap s no_list no_map = absurd (no_map refl)
+plain_alike f h types.OptionalI64 s no_list no_map = refl
+plain_alike f h types.OptionalF64 s no_list no_map = refl
+plain_alike f h types.OptionalBool s no_list no_map = refl
+plain_alike f h types.OptionalString s no_list no_map = refl
+plain_alike f h types.OptionalBytes s no_list no_map = refl
+plain_alike f h types.OptionalPooledStackFrames s no_list no_map = refl
+plain_alike f h types.OptionalPooledString s no_list no_map = refl
+plain_alike f h types.OptionalStackFrames s no_list no_map = refl
+plain_alike f h types.OptionalVarint s no_list no_map = refl
+plain_alike f h types.OptionalStringMap s no_list no_map = refl
+plain_alike f h types.OptionalU8 s no_list no_map = refl
+plain_alike f h types.OptionalU16 s no_list no_map = refl
+plain_alike f h types.OptionalU32 s no_list no_map = refl
+plain_alike f h types.OptionalDynamicList s no_list no_map = refl
+plain_alike f h types.OptionalDynamicMap s no_list no_map = refl
+
+-- a value is read by its plain type
+pub value_by :
+    (levels m : ℕ) (t u : FieldType) (s : List ℕ) → levels ≡ suc m → inner t ≡ u
+    → value_at owned_reader levels t s ≡ plain_at owned_reader (value_at owned_reader m) u s
+unfolding value_at
+value_by levels m t u s more is =
+    ap (λ (n : ℕ). value_at owned_reader n t s) more
+    ∙ ap (λ (x : FieldType). plain_at owned_reader (value_at owned_reader m) x s) is
+
+-- an item is read by the tag before it
+pub item_by :
+    (read : InnerReading) (bytes : List ℕ) (x : ℕ) (s : List ℕ) (t : FieldType) → bytes ≡ x ∷ s → from_tag x ≡ Some t
+    → item_at read bytes ≡ read t s
+unfolding item_at
+item_by read bytes x s t is tagged = ap (item_at read) is ∙ rw tagged refl
+
+-- a value that was decoded is what is read
+pub decoded_read :
+    (t : FieldType) (bytes rest : List ℕ) (v : Value)
+    → (front : List ℕ) × (bytes ≡ front ++ rest) × IsValue owned_reader t 0 front v
+    → value_at owned_reader 33 t bytes ≡ Some (v, rest)
+decoded_read t bytes rest v (front, is, spelled) =
+    ap (value_at owned_reader 33 t) is ∙ value_again owned_reader v t 0 33 front rest refl spelled
+
+-- ---- a pair
+
+-- a pair is two items
+pair_parts :
+    (read : InnerReading) (s : List ℕ) (z : (Value × Value) × List ℕ) → pair_at read s ≡ Some z
+    → (x : Value × List ℕ) × (item_at read s ≡ Some x) × (y : Value × List ℕ) × (item_at read x.1 ≡ Some y)
+    × (((x.0, y.0), y.1) ≡ z)
+unfolding pair_at
+pair_parts read s z e =
+    let a = bind_some (item_at read s) (λ x. item_at read x.1 >>= λ y. Some ((x.0, y.0), y.1)) z e in
+    let b = bind_some (item_at read a.0.1) (λ y. Some ((a.0.0, y.0), y.1)) z a.2 in
+    (a.0, a.1, b.0, b.1, some_is ((a.0.0, b.0.0), b.0.1) z b.2)
+
+-- ---- items one after another
+
+-- what is left to be read of so many, and of their text
+abbrev pub ItemsLeft :
+    {S E A : Type 0} → Growth S E → (List ℕ → Option (A × List ℕ)) → (A → List ℕ) → ℕ → S → List ℕ → ℕ → List ℕ → S
+    → Type 0
+ItemsLeft grows one shown n s bytes i rest m =
+    (x : _) → times_at one n bytes ≡ Some x → (others : _) × (times_at one (n - i) rest ≡ Some (others, x.1))
+    × IsLeft grows s (join_by shown (codes ",") x.0) m (joined_left shown i others)
+
+-- before the first
+pub items_begin :
+    {S E A : Type 0} (grows : Growth S E) (one : List ℕ → Option (A × List ℕ)) (shown : A → List ℕ) (n : ℕ) (s : S)
+    (bytes : List ℕ) → ItemsLeft grows one shown n s bytes 0 bytes s
+items_begin grows one shown n s bytes x e =
+    (x.0, ap (λ (k : ℕ). times_at one k bytes) (omega arith) ∙ e, all_left grows s (joined_all shown x.0))
+
+-- the first of those that are left
+next_item :
+    {A : Type 0} (one : List ℕ → Option (A × List ℕ)) (n i : ℕ) (rest : List ℕ) (others : List A) (tail : List ℕ)
+    → i < n → times_at one (n - i) rest ≡ Some (others, tail)
+    → (v : A × List ℕ) × (one rest ≡ Some v) × (more : List A) × (times_at one (n - (i + 1)) v.1 ≡ Some (more, tail))
+    × (v.0 ∷ more ≡ others)
+unfolding times_at
+next_item {A} one n i rest others tail lt e =
+    let k : n - i ≡ suc (n - (i + 1)) = omega arith in
+    let first : times_at one (suc (n - (i + 1))) rest ≡ Some (others, tail) =
+    ap (λ (m : ℕ). times_at one m rest) (sym k) ∙ e in
+    let a = bind_some (one rest) (λ v. times_at one (n - (i + 1)) v.1 >>= λ more. Some (v.0 ∷ more.0, more.1))
+    (others, tail) first in
+    let b = bind_some (times_at one (n - (i + 1)) a.0.1) (λ more. Some (a.0.0 ∷ more.0, more.1)) (others, tail) a.2 in
+    let same = some_is (a.0.0 ∷ b.0.0, b.0.1) (others, tail) b.2 in (
+      a.0,
+      a.1,
+      b.0.0,
+      b.1 ∙ ap (λ (y : List ℕ). Some (b.0.0, y)) (ap (λ (y : List A × List ℕ). y.1) same),
+      ap (λ (y : List A × List ℕ). y.0) same,
+    )
+
+left_first :
+    {A : Type 0} (shown : A → List ℕ) (i : ℕ) (x : A) (xs : List A)
+    → joined_left shown i (x ∷ xs) ≡ (comma_before i ++ shown x) ++ joined_left shown (i + 1) xs
+left_first shown i x xs =
+    ap (λ (t : List ℕ). (comma_before i ++ shown x) ++ t)
+    (sym (ap (λ (k : ℕ). joined_left shown k xs) (add-one i) ∙ left_later shown i xs))
+
+-- one more is appended
+pub items_go_on :
+    {S E A : Type 0} {grows : Growth S E} (one : List ℕ → Option (A × List ℕ)) {shown : A → List ℕ} {n i : ℕ} {s : S}
+    {bytes : List ℕ} {rest after : Bor (List ℕ)} {m k t : S} → Joins grows → i < n
+    → ItemsLeft grows one shown n s bytes i rest.now m → grows m (comma_before i) (Ok tt) k
+    → PutsRead grows shown (one rest.now) k t (Ok after) → ItemsLeft grows one shown n s bytes (i + 1) after.now t
+items_go_on one {shown} {n} {i} {rest = rest} {after} {m} {k} {t} joins lt left comma put x e =
+    let (others, read, is_left) = left x e in
+    let (v, first, more, then, same) = next_item one n i rest.now others x.1 lt read in
+    let p = was_put (one rest.now) after put first in (
+      more,
+      ap (λ (y : List ℕ). times_at one (n - (i + 1)) y) p.1 ∙ then,
+      part_put t (comma_before i ++ shown v.0) (joined_left shown (i + 1) more) joins is_left
+          (ap (joined_left shown i) (sym same) ∙ left_first shown i v.0 more)
+          (joins m k t (comma_before i) (shown v.0) (Ok tt) comma p.0),
+    )
+
+-- its comma is not appended
+pub items_stop_first :
+    {S E A : Type 0} {grows : Growth S E} (one : List ℕ → Option (A × List ℕ)) {shown : A → List ℕ} (n i : ℕ) {s : S}
+    (bytes : List ℕ) (rest : List ℕ) {m : S} (t : S) (e : E) → Stops grows → i < n
+    → ItemsLeft grows one shown n s bytes i rest m → grows m (comma_before i) (Err e) t
+    → PutsRead grows (λ xs. join_by shown (codes ",") xs) (times_at one n bytes) s t (Err e)
+items_stop_first one {shown} n i bytes rest {m} t e stops lt left comma =
+    puts_not (times_at one n bytes) e (λ x is.
+    let (others, read, is_left) = left x is in
+    let (v, first, more, then, same) = next_item one n i rest others x.1 lt read in
+    part_not_put t (comma_before i ++ shown v.0) (joined_left shown (i + 1) more) e stops is_left
+    (ap (joined_left shown i) (sym same) ∙ left_first shown i v.0 more)
+    (stops m t (comma_before i) (shown v.0) e comma))
+
+-- it is not appended itself
+pub items_stop :
+    {S E A : Type 0} {grows : Growth S E} (one : List ℕ → Option (A × List ℕ)) {shown : A → List ℕ} (n i : ℕ) {s : S}
+    (bytes : List ℕ) (rest : List ℕ) {m : S} (k t : S) (e : E) → Joins grows → Stops grows → i < n
+    → ItemsLeft grows one shown n s bytes i rest m → grows m (comma_before i) (Ok tt) k
+    → PutsRead grows shown (one rest) k t (Err e)
+    → PutsRead grows (λ xs. join_by shown (codes ",") xs) (times_at one n bytes) s t (Err e)
+items_stop one {shown} n i bytes rest {m} k t e joins stops lt left comma put =
+    puts_not (times_at one n bytes) e (λ x is.
+    let (others, read, is_left) = left x is in
+    let (v, first, more, then, same) = next_item one n i rest others x.1 lt read in
+    part_not_put t (comma_before i ++ shown v.0) (joined_left shown (i + 1) more) e stops is_left
+    (ap (joined_left shown i) (sym same) ∙ left_first shown i v.0 more)
+    (joins m k t (comma_before i) (shown v.0) (Err e) comma (was_not_put (one rest) e put first)))
+
+none_more :
+    {A : Type 0} (one : List ℕ → Option (A × List ℕ)) (n i : ℕ) (rest : List ℕ) (others : List A) (tail : List ℕ)
+    → n ≤ i → times_at one (n - i) rest ≡ Some (others, tail) → ([] ≡ others) × (rest ≡ tail)
+unfolding times_at
+none_more {A} one n i rest others tail le e =
+    let k : n - i ≡ 0 = omega arith in
+    let same = some_is ([], rest) (others, tail) (ap (λ (m : ℕ). times_at one m rest) (sym k) ∙ e) in
+    (ap (λ (y : List A × List ℕ). y.0) same, ap (λ (y : List A × List ℕ). y.1) same)
+
+-- after the last
+pub items_end :
+    {S E A : Type 0} {grows : Growth S E} (one : List ℕ → Option (A × List ℕ)) {shown : A → List ℕ} (n i : ℕ) {s : S}
+    (bytes : List ℕ) (rest : Bor (List ℕ)) (m : S) → Empty grows → n ≤ i
+    → ItemsLeft grows one shown n s bytes i rest.now m
+    → PutsRead grows (λ xs. join_by shown (codes ",") xs) (times_at one n bytes) s m (Ok rest)
+items_end one {shown} n i bytes rest m empty le left =
+    puts_all (times_at one n bytes) rest (λ x is.
+    let (others, read, is_left) = left x is in
+    let (none, same) = none_more one n i rest.now others x.1 le read in
+    (none_left empty is_left (ap (joined_left shown i) (sym none)), same))
+
+-- ---- a pair that is appended
+
+-- its key is not
+pub key_not_put :
+    {S E : Type 0} {grows : Growth S E} (read : InnerReading) (bytes : List ℕ) {s : S} (t : S) (e : E) → Stops grows
+    → PutsRead grows value_text (item_at read bytes) s t (Err e)
+    → PutsRead grows pair_value_text (pair_at read bytes) s t (Err e)
+key_not_put {grows = grows} read bytes {s} t e stops put =
+    puts_not (pair_at read bytes) e (λ z is.
+    let (x, first, y, second, same) = pair_parts read bytes z is in
+    subst (λ (w : (Value × Value) × List ℕ). grows s (pair_value_text w.0) (Err e) t) same
+    (stops s t (value_text x.0 ++ codes "=") (value_text y.0) e
+    (stops s t (value_text x.0) (codes "=") e (was_not_put (item_at read bytes) e put first))))
+
+-- what parts both is not
+pub equals_not_put :
+    {S E : Type 0} {grows : Growth S E} (read : InnerReading) (bytes : List ℕ) (rest : Bor (List ℕ)) {s m : S} (t : S)
+    (e : E) → Joins grows → Stops grows → PutsRead grows value_text (item_at read bytes) s m (Ok rest)
+    → grows m (codes "=") (Err e) t → PutsRead grows pair_value_text (pair_at read bytes) s t (Err e)
+equals_not_put {grows = grows} read bytes rest {s} {m} t e joins stops put equals =
+    puts_not (pair_at read bytes) e (λ z is.
+    let (x, first, y, second, same) = pair_parts read bytes z is in
+    subst (λ (w : (Value × Value) × List ℕ). grows s (pair_value_text w.0) (Err e) t) same
+    (stops s t (value_text x.0 ++ codes "=") (value_text y.0) e
+    (joins s m t (value_text x.0) (codes "=") (Err e) (was_put (item_at read bytes) rest put first).0 equals)))
+
+-- its value is, or is not
+pub pair_put :
+    {S E : Type 0} {grows : Growth S E} (read : InnerReading) (bytes : List ℕ) (rest : Bor (List ℕ)) {s m n : S} (t : S)
+    (r : Result (Bor (List ℕ)) E) → Joins grows → PutsRead grows value_text (item_at read bytes) s m (Ok rest)
+    → grows m (codes "=") (Ok tt) n → PutsRead grows value_text (item_at read rest.now) n t r
+    → PutsRead grows pair_value_text (pair_at read bytes) s t r
+pair_put {grows = grows} read bytes rest {s} {m} {n} t (Ok after) joins key equals value =
+    puts_all (pair_at read bytes) after (λ z is.
+    let (x, first, y, second, same) = pair_parts read bytes z is in
+    let k = was_put (item_at read bytes) rest key first in
+    let v = was_put (item_at read rest.now) after value (ap (item_at read) k.1 ∙ second) in
+    subst (λ (w : (Value × Value) × List ℕ). grows s (pair_value_text w.0) (Ok tt) t × (after.now ≡ w.1)) same
+    (joins s n t (value_text x.0 ++ codes "=") (value_text y.0) (Ok tt)
+    (joins s m n (value_text x.0) (codes "=") (Ok tt) k.0 equals) v.0, v.1))
+pair_put {grows = grows} read bytes rest {s} {m} {n} t (Err e) joins key equals value =
+    puts_not (pair_at read bytes) e (λ z is.
+    let (x, first, y, second, same) = pair_parts read bytes z is in
+    let k = was_put (item_at read bytes) rest key first in
+    let v = was_not_put (item_at read rest.now) e value (ap (item_at read) k.1 ∙ second) in
+    subst (λ (w : (Value × Value) × List ℕ). grows s (pair_value_text w.0) (Err e) t) same
+    (joins s n t (value_text x.0 ++ codes "=") (value_text y.0) (Err e)
+    (joins s m n (value_text x.0) (codes "=") (Ok tt) k.0 equals) v))
+
+-- ---- what stands in brackets
+
+-- how a value is shown that holds these
+abbrev InBrackets : {A : Type 0} → (List A → Value) → (List A → List ℕ) → List ℕ → List ℕ → Type 0
+InBrackets f inside open close = (xs : List _) → value_text (f xs) ≡ open ++ (inside xs ++ close)
+
+same_values : {A : Type 0} (xs : List A) → list_map (λ x. x) xs ≡ xs
+same_values [] = refl
+same_values (x ∷ xs) = ap (λ (ys : List _). x ∷ ys) (same_values xs)
+
+-- a list, and a map
+abbrev pub of_list : (vs : List Value) → Value
+of_list vs = list (values_to_items vs)
+
+abbrev pub of_map : (ps : List (Value × Value)) → Value
+of_map ps = map (values_to_pairs ps)
+
+pub list_shown : InBrackets of_list (λ vs. join_by value_text (codes ",") vs) (codes "List:[") (codes "]")
+list_shown vs =
+    ap (λ (xs : List Value). value_text (list (values_to_items xs))) (sym (same_values vs))
+    ∙ text_of_list (λ v. v) vs
+
+pub map_shown : InBrackets of_map (λ ps. join_by pair_value_text (codes ",") ps) (codes "Map:{") (codes "}")
+map_shown ps =
+    ap (λ (xs : List (Value × Value)). value_text (map (values_to_pairs xs))) (sym (same_values ps))
+    ∙ text_of_map (λ p. p) ps
+
+-- a list is its items, so many as its count says
+pub list_read :
+    (read : InnerReading) (bytes : List ℕ) (n : ℕ) (rest : List ℕ) → count_at most_items bytes ≡ Some (n, rest)
+    → plain_at owned_reader read types.DynamicList bytes ≡ as_value of_list (times_at (item_at read) n rest)
+unfolding plain_at, many_at
+list_read read bytes n rest e = rw e refl
+
+pub map_read :
+    (read : InnerReading) (bytes : List ℕ) (n : ℕ) (rest : List ℕ) → count_at most_items bytes ≡ Some (n, rest)
+    → plain_at owned_reader read types.DynamicMap bytes ≡ as_value of_map (times_at (pair_at read) n rest)
+unfolding plain_at, many_at
+map_read read bytes n rest e = rw e refl
+
+-- its first part is not appended
+pub not_opened :
+    {S E A : Type 0} {grows : Growth S E} (f : List A → Value) {inside : List A → List ℕ} {open close : List ℕ}
+    (o : Option (List A × List ℕ)) {s : S} (t : S) (e : E) → InBrackets f inside open close → Stops grows
+    → grows s open (Err e) t → PutsRead grows value_text (as_value f o) s t (Err e)
+not_opened f None t e shown stops first = tt
+not_opened {grows = grows} f {inside} {open} {close} (Some x) {s} t e shown stops first =
+    part_not_put t open (inside x.0 ++ close) e stops (all_left grows s (sym (shown x.0))) refl first
+
+-- what it holds is not
+pub not_filled :
+    {S E A : Type 0} {grows : Growth S E} (f : List A → Value) {inside : List A → List ℕ} {open close : List ℕ}
+    (o : Option (List A × List ℕ)) {s m : S} (t : S) (e : E) → InBrackets f inside open close → Joins grows
+    → Stops grows → grows s open (Ok tt) m → PutsRead grows inside o m t (Err e)
+    → PutsRead grows value_text (as_value f o) s t (Err e)
+not_filled f None t e shown joins stops first held = tt
+not_filled {grows = grows} f {inside} {open} {close} (Some x) {s} {m} t e shown joins stops first held =
+    part_not_put t (inside x.0) close e stops
+    (part_put m open (inside x.0 ++ close) joins (all_left grows s (sym (shown x.0))) refl first) refl held
+
+-- its last part is, or is not
+pub closed :
+    {S E A : Type 0} {grows : Growth S E} (f : List A → Value) {inside : List A → List ℕ} {open close : List ℕ}
+    (o : Option (List A × List ℕ)) (rest : Bor (List ℕ)) {s m n : S} (t : S) → InBrackets f inside open close
+    → Joins grows → grows s open (Ok tt) m → PutsRead grows inside o m n (Ok rest) → grows n close (Ok tt) t
+    → PutsRead grows value_text (as_value f o) s t (Ok rest)
+closed f None rest t shown joins first held last = tt
+closed {grows = grows} f {inside} {open} {close} (Some x) rest {s} {m} {n} t shown joins first (held, is) last =
+    let opened = part_put m open (inside x.0 ++ close) joins (all_left grows s (sym (shown x.0))) refl first in
+    let filled = part_put n (inside x.0) close joins opened refl held in
+    (filled.answers (Ok tt) t last, is)
+
+pub not_closed :
+    {S E A : Type 0} {grows : Growth S E} (f : List A → Value) {inside : List A → List ℕ} {open close : List ℕ}
+    (o : Option (List A × List ℕ)) (rest : Bor (List ℕ)) {s m n : S} (t : S) (e : E)
+    → InBrackets f inside open close → Joins grows → grows s open (Ok tt) m → PutsRead grows inside o m n (Ok rest)
+    → grows n close (Err e) t → PutsRead grows value_text (as_value f o) s t (Err e)
+not_closed f None rest t e shown joins first held last = tt
+not_closed {grows = grows} f {inside} {open} {close} (Some x) rest {s} {m} {n} t e shown joins first (held, is) last =
+    let opened = part_put m open (inside x.0 ++ close) joins (all_left grows s (sym (shown x.0))) refl first in
+    let filled = part_put n (inside x.0) close joins opened refl held in
+    filled.answers (Err e) t last
+
+-- ---- a value that was made
+
+pub value_put :
+    {S E : Type 0} {grows : Growth S E} (bytes : List ℕ) (t : FieldType) (v : Value) (rest : Bor (List ℕ)) {s m : S}
+    → (front : List ℕ) × (bytes ≡ front ++ rest.now) × IsValue owned_reader t 0 front v
+    → grows s (value_text v) (Ok tt) m
+    → PutsRead grows value_text (value_at owned_reader 33 t bytes) s m (Ok rest)
+value_put {grows = grows} bytes t v rest {s} {m} decoded put =
+    subst (λ (o : Option (Value × List ℕ)). PutsRead grows value_text o s m (Ok rest))
+    (sym (decoded_read t bytes rest.now v decoded)) (put, refl)
+
+pub value_not_put :
+    {S E : Type 0} {grows : Growth S E} (bytes : List ℕ) (t : FieldType) (v : Value) (rest : List ℕ) {s m : S} (e : E)
+    → (front : List ℕ) × (bytes ≡ front ++ rest) × IsValue owned_reader t 0 front v
+    → grows s (value_text v) (Err e) m
+    → PutsRead grows value_text (value_at owned_reader 33 t bytes) s m (Err e)
+value_not_put {grows = grows} bytes t v rest {s} {m} e decoded put =
+    subst (λ (o : Option (Value × List ℕ)). PutsRead grows value_text o s m (Err e))
+    (sym (decoded_read t bytes rest v decoded)) put
+
+-- a value of a plain type that is no list and no map is read alike at each level
+pub plain_at_level :
+    (levels m : ℕ) (t u : FieldType) (s : List ℕ) → levels ≡ suc m → inner t ≡ u → inner u ≡ u
+    → (u ≡ types.DynamicList → ⊥) → (u ≡ types.DynamicMap → ⊥)
+    → value_at owned_reader levels t s ≡ value_at owned_reader 33 u s
+plain_at_level levels m t u s more is same no_list no_map =
+    value_by levels m t u s more is
+    ∙ plain_alike (value_at owned_reader m) (value_at owned_reader 32) u s no_list no_map
+    ∙ sym (value_by 33 32 u u s (omega arith) same)
+
+-- of a plain type the plain type is itself
+pub inner_inner : (t : FieldType) → inner (inner t) ≡ inner t
+inner_inner types.I64 = refl
+inner_inner types.F64 = refl
+inner_inner types.Bool = refl
+inner_inner types.String = refl
+inner_inner types.Bytes = refl
+inner_inner types.PooledStackFrames = refl
+inner_inner types.PooledString = refl
+inner_inner types.StackFrames = refl
+inner_inner types.Varint = refl
+inner_inner types.StringMap = refl
+inner_inner types.U8 = refl
+inner_inner types.U16 = refl
+inner_inner types.U32 = refl
+inner_inner types.DynamicList = refl
+inner_inner types.DynamicMap = refl
+inner_inner types.OptionalI64 = refl
+inner_inner types.OptionalF64 = refl
+inner_inner types.OptionalBool = refl
+inner_inner types.OptionalString = refl
+inner_inner types.OptionalBytes = refl
+inner_inner types.OptionalPooledStackFrames = refl
+inner_inner types.OptionalPooledString = refl
+inner_inner types.OptionalStackFrames = refl
+inner_inner types.OptionalVarint = refl
+inner_inner types.OptionalStringMap = refl
+inner_inner types.OptionalU8 = refl
+inner_inner types.OptionalU16 = refl
+inner_inner types.OptionalU32 = refl
+inner_inner types.OptionalDynamicList = refl
+inner_inner types.OptionalDynamicMap = refl
