@@ -1,18 +1,20 @@
 -- Parts of lines that are appended as they are read from bytes.
 use Rattle.std.proofs.Common.{◌≡◌, ◌∙◌, ℕ, suc, ◌+◌, ◌-◌, ◌<◌, ◌≤◌, List, [], ◌∷◌, ◌++◌, drop, Option, Some, None, Result, Ok}
-use Rattle.std.proofs.Common.{Err, codes, map as list_map, refl, sym, ap, subst, add-one, arith}
+use Rattle.std.proofs.Common.{Err, Bool, true, false, append-nil, codes, map as list_map, refl, sym, ap, subst, add-one, arith}
 use Rattle.std.specs.Borrow.{Bor}
-use Rattle.std.specs.List.{join_by}
+use Rattle.std.specs.List.{flat_map, join_by}
+use Rattle.std.specs.Prelude.{◌==◌}
 use Rattle.trace_values.specs.declared.types.field_type.FieldType.{FieldType}
 use Rattle.trace_values.specs.declared.types.field_type.FieldType.TheVariants as types
-use Rattle.trace_values.specs.FieldTypes.{from_tag, inner}
+use Rattle.trace_values.specs.FieldTypes.{from_tag, inner, is_optional}
 use Rattle.trace_values.specs.Reading.{◌>>=◌, InnerReading, as_value, count_at, item_at, many_at, pair_at, plain_at, times_at}
-use Rattle.trace_values.specs.Reading.{value_at, values_to_items, values_to_pairs}
+use Rattle.trace_values.specs.Reading.{field_at, field_by, fields_at, value_at, values_to_items, values_to_pairs}
 use Rattle.trace_values.specs.Limits.{most_items}
-use Rattle.trace_values.specs.Values.{Value, owned_reader, list, map, IsValue}
+use Rattle.trace_values.specs.Values.{Value, owned_reader, absent, list, map, AreFields, IsValue}
 use Rattle.trace_values.proofs.OptionsAndBytes.{bind_some, some_is}
+use Rattle.trace_values.proofs.FieldsAsRead.{fields_again}
 use Rattle.trace_values.proofs.ValuesAsRead.{value_again}
-use Rattle.trace_lines.specs.Lines.{value_text}
+use Rattle.trace_lines.specs.Lines.{spaced_value, value_text}
 use Rattle.trace_lines.specs.parts.Lines.{comma_before}
 use Rattle.trace_lines.specs.parts.SpelledLines.{PutsRead, pair_value_text}
 use Rattle.trace_lines.proofs.GrowingParts.{Growth, Empty, Joins, Stops, IsLeft, all_left, part_put, part_not_put}
@@ -443,3 +445,134 @@ inner_inner types.OptionalU16 = refl
 inner_inner types.OptionalU32 = refl
 inner_inner types.OptionalDynamicList = refl
 inner_inner types.OptionalDynamicMap = refl
+
+-- ---- a field
+
+-- a field that is always there is its value
+pub field_plain : (t : FieldType) (s : List ℕ) → is_optional t ≡ false
+    → field_at owned_reader t s ≡ value_at owned_reader 33 t s
+unfolding field_at
+field_plain t s e = ap (λ (b : Bool). field_by b owned_reader t s) e
+
+-- one that is absent
+pub field_absent : (t : FieldType) (bytes rest : List ℕ) → is_optional t ≡ true → bytes ≡ 0 ∷ rest
+    → field_at owned_reader t bytes ≡ Some (absent, rest)
+unfolding field_at
+field_absent t bytes rest e is =
+    ap (λ (b : Bool). field_by b owned_reader t bytes) e ∙ ap (λ (x : List ℕ). field_by true owned_reader t x) is
+
+-- one that is there
+pub field_present : (t : FieldType) (bytes : List ℕ) (x : ℕ) (rest : List ℕ) → is_optional t ≡ true → bytes ≡ x ∷ rest
+    → (x == 0) ≡ false → field_at owned_reader t bytes ≡ value_at owned_reader 33 t rest
+unfolding field_at
+field_present t bytes x rest e is there =
+    ap (λ (b : Bool). field_by b owned_reader t bytes) e ∙ ap (λ (x : List ℕ). field_by true owned_reader t x) is
+    ∙ rw there refl
+
+-- ---- fields one after another
+
+-- what is left to be read of the fields of these types, and of their text
+abbrev pub FieldsLeft :
+    {S E : Type 0} → Growth S E → List FieldType → S → List ℕ → ℕ → List ℕ → S → Type 0
+FieldsLeft grows ts s bytes i rest m =
+    (x : List Value × List ℕ) → fields_at owned_reader ts bytes ≡ Some x → (others : List Value)
+    × (fields_at owned_reader (drop i ts) rest ≡ Some (others, x.1))
+    × IsLeft grows s (flat_map spaced_value x.0) m (flat_map spaced_value others)
+
+pub fields_begin :
+    {S E : Type 0} (grows : Growth S E) (ts : List FieldType) (s : S) (bytes : List ℕ)
+    → FieldsLeft grows ts s bytes 0 bytes s
+fields_begin grows ts s bytes x e = (x.0, e, all_left grows s refl)
+
+next_field :
+    (t : FieldType) (ts : List FieldType) (rest : List ℕ) (others : List Value) (tail : List ℕ)
+    → fields_at owned_reader (t ∷ ts) rest ≡ Some (others, tail)
+    → (v : Value × List ℕ) × (field_at owned_reader t rest ≡ Some v) × (more : List Value)
+    × (fields_at owned_reader ts v.1 ≡ Some (more, tail)) × (v.0 ∷ more ≡ others)
+unfolding fields_at
+next_field t ts rest others tail e =
+    let a = bind_some (field_at owned_reader t rest) (λ v. fields_at owned_reader ts v.1 >>= λ more. Some
+    (v.0 ∷ more.0, more.1)) (others, tail) e in
+    let b = bind_some (fields_at owned_reader ts a.0.1) (λ more. Some (a.0.0 ∷ more.0, more.1)) (others, tail) a.2 in
+    let same = some_is (a.0.0 ∷ b.0.0, b.0.1) (others, tail) b.2 in (
+      a.0,
+      a.1,
+      b.0.0,
+      b.1 ∙ ap (λ (y : List ℕ). Some (b.0.0, y)) (ap (λ (y : List Value × List ℕ). y.1) same),
+      ap (λ (y : List Value × List ℕ). y.0) same,
+    )
+
+-- one more is appended
+pub fields_go_on :
+    {S E : Type 0} {grows : Growth S E} (ts : List FieldType) (t : FieldType) {i : ℕ} {s : S} {bytes : List ℕ}
+    {rest after : Bor (List ℕ)} {m k n : S} → Joins grows → drop i ts ≡ t ∷ drop (i + 1) ts
+    → FieldsLeft grows ts s bytes i rest.now m → grows m (codes " ") (Ok tt) k
+    → PutsRead grows value_text (field_at owned_reader t rest.now) k n (Ok after)
+    → FieldsLeft grows ts s bytes (i + 1) after.now n
+fields_go_on ts t {i} {rest = rest} {after} {m} {k} {n} joins first left space put x e =
+    let (others, read, is_left) = left x e in
+    let (v, one, more, then, same) = next_field t (drop (i + 1) ts) rest.now others x.1
+    (ap (λ (us : List FieldType). fields_at owned_reader us rest.now) (sym first) ∙ read) in
+    let p = was_put (field_at owned_reader t rest.now) after put one in (
+      more,
+      ap (λ (y : List ℕ). fields_at owned_reader (drop (i + 1) ts) y) p.1 ∙ then,
+      part_put n (spaced_value v.0) (flat_map spaced_value more) joins is_left
+          (ap (flat_map spaced_value) (sym same))
+          (joins m k n (codes " ") (value_text v.0) (Ok tt) space p.0),
+    )
+
+-- the space before it is not appended
+pub fields_stop_first :
+    {S E : Type 0} {grows : Growth S E} (ts : List FieldType) (t : FieldType) (i : ℕ) {s : S} (bytes rest : List ℕ)
+    {m : S} (n : S) (e : E) → Stops grows → drop i ts ≡ t ∷ drop (i + 1) ts → FieldsLeft grows ts s bytes i rest m
+    → grows m (codes " ") (Err e) n
+    → PutsRead grows (λ vs. flat_map spaced_value vs) (fields_at owned_reader ts bytes) s n (Err e)
+fields_stop_first ts t i bytes rest {m} n e stops first left space =
+    puts_not (fields_at owned_reader ts bytes) e (λ x is.
+    let (others, read, is_left) = left x is in
+    let (v, one, more, then, same) = next_field t (drop (i + 1) ts) rest others x.1
+    (ap (λ (us : List FieldType). fields_at owned_reader us rest) (sym first) ∙ read) in
+    part_not_put n (spaced_value v.0) (flat_map spaced_value more) e stops is_left (ap (flat_map spaced_value) (sym same))
+    (stops m n (codes " ") (value_text v.0) e space))
+
+-- its value is not
+pub fields_stop :
+    {S E : Type 0} {grows : Growth S E} (ts : List FieldType) (t : FieldType) (i : ℕ) {s : S} (bytes rest : List ℕ)
+    {m : S} (k n : S) (e : E) → Joins grows → Stops grows → drop i ts ≡ t ∷ drop (i + 1) ts
+    → FieldsLeft grows ts s bytes i rest m → grows m (codes " ") (Ok tt) k
+    → PutsRead grows value_text (field_at owned_reader t rest) k n (Err e)
+    → PutsRead grows (λ vs. flat_map spaced_value vs) (fields_at owned_reader ts bytes) s n (Err e)
+fields_stop ts t i bytes rest {m} k n e joins stops first left space put =
+    puts_not (fields_at owned_reader ts bytes) e (λ x is.
+    let (others, read, is_left) = left x is in
+    let (v, one, more, then, same) = next_field t (drop (i + 1) ts) rest others x.1
+    (ap (λ (us : List FieldType). fields_at owned_reader us rest) (sym first) ∙ read) in
+    part_not_put n (spaced_value v.0) (flat_map spaced_value more) e stops is_left (ap (flat_map spaced_value) (sym same))
+    (joins m k n (codes " ") (value_text v.0) (Err e) space
+    (was_not_put (field_at owned_reader t rest) e put one)))
+
+no_field_more :
+    (rest : List ℕ) (others : List Value) (tail : List ℕ) → fields_at owned_reader [] rest ≡ Some (others, tail)
+    → ([] ≡ others) × (rest ≡ tail)
+unfolding fields_at
+no_field_more rest others tail e =
+    let same = some_is ([], rest) (others, tail) e in
+    (ap (λ (y : List Value × List ℕ). y.0) same, ap (λ (y : List Value × List ℕ). y.1) same)
+
+-- after the last
+pub fields_end :
+    {S E : Type 0} {grows : Growth S E} (ts : List FieldType) (i : ℕ) {s : S} (bytes : List ℕ) (rest : Bor (List ℕ))
+    (m : S) → Empty grows → drop i ts ≡ [] → FieldsLeft grows ts s bytes i rest.now m
+    → PutsRead grows (λ vs. flat_map spaced_value vs) (fields_at owned_reader ts bytes) s m (Ok rest)
+fields_end ts i bytes rest m empty done left =
+    puts_all (fields_at owned_reader ts bytes) rest (λ x is.
+    let (others, read, is_left) = left x is in
+    let (none, same) = no_field_more rest.now others x.1
+    (ap (λ (us : List FieldType). fields_at owned_reader us rest.now) (sym done) ∙ read) in
+    (none_left empty is_left (ap (flat_map spaced_value) (sym none)), same))
+
+-- fields that are spelled are read
+pub fields_are_read : (ts : List FieldType) (bytes : List ℕ) (vs : List Value) → AreFields owned_reader ts bytes vs
+    → fields_at owned_reader ts bytes ≡ Some (vs, [])
+fields_are_read ts bytes vs p =
+    ap (fields_at owned_reader ts) (sym (append-nil bytes)) ∙ fields_again owned_reader ts bytes [] vs p
