@@ -1,6 +1,6 @@
 //! A dump of an input that is read in pieces.
 
-ghost use Rattle.std.specs.Prelude.{◌≡◌, ◌≢◌, ◌≤◌, [], false, IfOk, OnOk, string_bytes};
+ghost use Rattle.std.specs.Prelude.{◌≡◌, ◌≢◌, ◌≤◌, [], false, IfOk, IfSome, OnOk, string_bytes};
 ghost use Rattle.trace_values.specs.Sending.{IsSettled};
 ghost use Rattle.trace_lines.specs.Dumps.{failed_status};
 ghost use Rattle.trace_lines.specs.PieceDumps.{DumpsFrontOfBytes, DumpsFrontOfRead, DumpsRead};
@@ -20,7 +20,7 @@ use crate::lines::{
     push_whole_line,
 };
 use crate::growing::GrowingLine;
-use crate::sent_lines::{LineFault, Lines};
+use crate::sent_lines::{ENOUGH, LineFault, Lines};
 use crate::spelled::push_spelled_line;
 use dial9_trace_format::decoder::{
     DecodeError, DecodeErrorKind, DecodedFrame, FeedDecoder, WholeEvent,
@@ -258,7 +258,7 @@ fn hold_next<W: TraceWrite>(
     ensures { HoldsNext W.told lines.old lines.new decoder.old.state decoder.new.state result }
 {
     lines.line.clear();
-    let next = match decoder.whole_event() {
+    let next = match large_event(decoder) {
         Some(event) => tri!(put_event(alloc, decoder, event, lines)),
         None => match push_next_lines(&mut lines.line, decoder) {
             Ok(next) => next,
@@ -269,6 +269,18 @@ fn hold_next<W: TraceWrite>(
         Ok(()) => Ok(next),
         Err(_) => Err(LineFault::OutOfMemory),
     }
+}
+
+// The event that stands whole at the front, if much is kept. (Any answer is right: of a small event the values take
+// little, and are read sooner all at once.)
+fn large_event(decoder: &mut FeedDecoder) -> Option<WholeEvent>
+    ensures same { decoder.new ≡ decoder.old }
+    ensures whole { IfSome result (IsWholeEvent decoder.old.state) }
+{
+    if decoder.fed_len().saturating_sub(decoder.position()) < ENOUGH {
+        return None;
+    }
+    decoder.whole_event()
 }
 
 // Appends the line of the event that stands whole at the front, and goes on after it.
