@@ -1,14 +1,16 @@
 -- Parts of lines that are appended as they are read from bytes.
-use Rattle.std.proofs.Common.{◌≡◌, ◌∙◌, ℕ, suc, ◌+◌, ◌-◌, ◌<◌, ◌≤◌, List, [], ◌∷◌, ◌++◌, drop, Option, Some, None, Result, Ok}
-use Rattle.std.proofs.Common.{Err, Bool, true, false, append-nil, codes, map as list_map, refl, sym, ap, subst, add-one, arith}
+use Rattle.std.proofs.Common.{◌≡◌, ◌∙◌, ℕ, suc, ◌+◌, ◌-◌, ◌<◌, ◌≤◌, List, [], ◌∷◌, ◌++◌, drop, Option, Some}
+use Rattle.std.proofs.Common.{None, Result, Ok, Err, Bool, true, false, append-nil, codes, map as list_map}
+use Rattle.std.proofs.Common.{refl, sym, ap, subst, add-one, arith}
 use Rattle.std.specs.Borrow.{Bor}
 use Rattle.std.specs.List.{flat_map, join_by}
 use Rattle.std.specs.Prelude.{◌==◌}
 use Rattle.trace_values.specs.declared.types.field_type.FieldType.{FieldType}
 use Rattle.trace_values.specs.declared.types.field_type.FieldType.TheVariants as types
 use Rattle.trace_values.specs.FieldTypes.{from_tag, inner, is_optional}
-use Rattle.trace_values.specs.Reading.{◌>>=◌, InnerReading, as_value, count_at, item_at, many_at, pair_at, plain_at, times_at}
-use Rattle.trace_values.specs.Reading.{field_at, field_by, fields_at, value_at, values_to_items, values_to_pairs}
+use Rattle.trace_values.specs.Reading.{◌>>=◌, InnerReading, as_value, count_at, item_at, many_at, pair_at}
+use Rattle.trace_values.specs.Reading.{plain_at, times_at, field_at, field_by, fields_at, value_at}
+use Rattle.trace_values.specs.Reading.{values_to_items, values_to_pairs}
 use Rattle.trace_values.specs.Limits.{most_items}
 use Rattle.trace_values.specs.Values.{Value, owned_reader, absent, list, map, AreFields, IsValue}
 use Rattle.trace_values.proofs.OptionsAndBytes.{bind_some, some_is}
@@ -360,7 +362,7 @@ not_filled {grows = grows} f {inside} {open} {close} (Some x) {s} {m} t e shown 
     part_not_put t (inside x.0) close e stops
     (part_put m open (inside x.0 ++ close) joins (all_left grows s (sym (shown x.0))) refl first) refl held
 
--- its last part is, or is not
+-- its last part is
 pub closed :
     {S E A : Type 0} {grows : Growth S E} (f : List A → Value) {inside : List A → List ℕ} {open close : List ℕ}
     (o : Option (List A × List ℕ)) (rest : Bor (List ℕ)) {s m n : S} (t : S) → InBrackets f inside open close
@@ -372,6 +374,7 @@ closed {grows = grows} f {inside} {open} {close} (Some x) rest {s} {m} {n} t sho
     let filled = part_put n (inside x.0) close joins opened refl held in
     (filled.answers (Ok tt) t last, is)
 
+-- or it is not
 pub not_closed :
     {S E A : Type 0} {grows : Growth S E} (f : List A → Value) {inside : List A → List ℕ} {open close : List ℕ}
     (o : Option (List A × List ℕ)) (rest : Bor (List ℕ)) {s m n : S} (t : S) (e : E)
@@ -385,6 +388,7 @@ not_closed {grows = grows} f {inside} {open} {close} (Some x) rest {s} {m} {n} t
 
 -- ---- a value that was made
 
+-- it was appended
 pub value_put :
     {S E : Type 0} {grows : Growth S E} (bytes : List ℕ) (t : FieldType) (v : Value) (rest : Bor (List ℕ)) {s m : S}
     → (front : List ℕ) × (bytes ≡ front ++ rest.now) × IsValue owned_reader t 0 front v
@@ -394,6 +398,7 @@ value_put {grows = grows} bytes t v rest {s} {m} decoded put =
     subst (λ (o : Option (Value × List ℕ)). PutsRead grows value_text o s m (Ok rest))
     (sym (decoded_read t bytes rest.now v decoded)) (put, refl)
 
+-- or it was not
 pub value_not_put :
     {S E : Type 0} {grows : Growth S E} (bytes : List ℕ) (t : FieldType) (v : Value) (rest : List ℕ) {s m : S} (e : E)
     → (front : List ℕ) × (bytes ≡ front ++ rest) × IsValue owned_reader t 0 front v
@@ -479,6 +484,7 @@ FieldsLeft grows ts s bytes i rest m =
     × (fields_at owned_reader (drop i ts) rest ≡ Some (others, x.1))
     × IsLeft grows s (flat_map spaced_value x.0) m (flat_map spaced_value others)
 
+-- before the first
 pub fields_begin :
     {S E : Type 0} (grows : Growth S E) (ts : List FieldType) (s : S) (bytes : List ℕ)
     → FieldsLeft grows ts s bytes 0 bytes s
@@ -532,7 +538,8 @@ fields_stop_first ts t i bytes rest {m} n e stops first left space =
     let (others, read, is_left) = left x is in
     let (v, one, more, then, same) = next_field t (drop (i + 1) ts) rest others x.1
     (ap (λ (us : List FieldType). fields_at owned_reader us rest) (sym first) ∙ read) in
-    part_not_put n (spaced_value v.0) (flat_map spaced_value more) e stops is_left (ap (flat_map spaced_value) (sym same))
+    part_not_put n (spaced_value v.0) (flat_map spaced_value more) e stops is_left
+    (ap (flat_map spaced_value) (sym same))
     (stops m n (codes " ") (value_text v.0) e space))
 
 -- its value is not
@@ -547,7 +554,8 @@ fields_stop ts t i bytes rest {m} k n e joins stops first left space put =
     let (others, read, is_left) = left x is in
     let (v, one, more, then, same) = next_field t (drop (i + 1) ts) rest others x.1
     (ap (λ (us : List FieldType). fields_at owned_reader us rest) (sym first) ∙ read) in
-    part_not_put n (spaced_value v.0) (flat_map spaced_value more) e stops is_left (ap (flat_map spaced_value) (sym same))
+    part_not_put n (spaced_value v.0) (flat_map spaced_value more) e stops is_left
+    (ap (flat_map spaced_value) (sym same))
     (joins m k n (codes " ") (value_text v.0) (Err e) space
     (was_not_put (field_at owned_reader t rest) e put one)))
 

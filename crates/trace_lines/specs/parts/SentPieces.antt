@@ -15,8 +15,8 @@ use Rattle.trace_lines.specs.parts.PieceDumps.{AreNextLines, ArePieceLines, Line
 use Rattle.trace_lines.specs.parts.SentLines.{GoOut}
 
 -- the line of an event is appended, and the decoder goes on after it; or the line is not
-abbrev pub PutsEvent : {S E : Type 0} → (S → List ℕ → Result (Unit {0}) E → S → Type 0) → WholeEvent → List Value → S → S
-    → FeedState → FeedState → Result Next E → Type 0
+abbrev pub PutsEvent : {S E : Type 0} → (S → List ℕ → Result (Unit {0}) E → S → Type 0) → WholeEvent → List Value
+    → S → S → FeedState → FeedState → Result Next E → Type 0
 PutsEvent grows e vs s t old new (Ok next) =
     (next ≡ Line) × grows s (line (event_line e.type_id.0 e.timestamp_ns vs)) (Ok tt) t
     × Pulls old new (Ok (Some (EventItem e.type_id.0 e.timestamp_ns vs)))

@@ -20,7 +20,8 @@ fields-preserved g c =
 pub returns-in-fields : goal.returns-in-fields
 returns-in-fields g c =
     let types = types_of c.args.fields.now in
-    let d = dropped_field c.args.fields.now c.fields.field-index c.field-item.result c.fields-test.true c.field-item.is in
+    let d = dropped_field c.args.fields.now c.fields.field-index c.field-item.result c.fields-test.true
+    c.field-item.is in
     fields_stop_first types _ c.fields.field-index c.args.bytes.now c.fields.rest.now _ _ g.met.L.GrowingLine.stops d
     c.fields.invariant c.in-Err-tri.ensures
 
