@@ -7,7 +7,7 @@ pub returns : goal.returns
 returns c = (
   c.next_frame-answer.new.self,
   next_as item_of c.next_frame-answer.result,
-  c.next_frame-answer.ensures.pulls.next,
-  c.next_frame-answer.ensures.pulls.again,
+  c.next_frame-answer.ensures.next,
+  c.next_frame-answer.ensures.again,
   c.conflict_in.ensures ∙ sym (told_as c.next_frame-answer.result),
 )
