@@ -119,6 +119,10 @@ class Model:
             self.tracks.setdefault(event.track(), name)
         self.pair()
 
+    def zero(self, event):
+        """The nanoseconds since 1970 at the zero of the clock of an event's file, if that is known."""
+        return next((zero for first, zero in reversed(self.data["clocks"]) if first <= event.number), None)
+
     def pair(self):
         opened = {}
         for event in self.events:

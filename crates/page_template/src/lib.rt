@@ -7,7 +7,7 @@ pub const HEAD: &str = "<!doctype html>
 <head>
 <meta charset=\"utf-8\">
 <meta http-equiv=\"Content-Security-Policy\" content=\"default-src 'none';
-  script-src 'sha256-G8y7J7Joy6zIu0u+9oS3BVi7k1OPd/DsOIQG8w7hbyk=';
+  script-src 'sha256-K6+BVZHI27Np0Rl5ykUZntbtfy+6ZnSQToVLsP2QdQ4=';
   style-src 'sha256-7Ce6TegYy3iLcNdVChw1ebDIc3OwkziIPAnwY40L0Lc=';
   img-src data:;
   base-uri 'none';
@@ -496,16 +496,11 @@ function readTrace() {
   if (data.format !== 1) throw new Error(`its data is of format ${data.format}, and this page reads format 1`);
   const { schema, time, values } = data.events;
   const count = schema.length;
-  // Where two schemas are alike in all that the data tells of them, annotations differ of which it tells nothing, as
-  // clocks are. So each may be of a clock of its own.
-  const told = data.schemas.map(({ name, roles, fields }) => JSON.stringify([name, roles, fields]));
-  const hasTwins = new Set(told).size < told.length;
   trace = {
     name: data.name,
     end: data.end,
     start: BigInt(data.start),
-    zero: data.zero === null || hasTwins ? null : BigInt(data.zero),
-    hasNoDates: data.zero !== null && hasTwins,
+    clocks: data.clocks.map(([first, zero]) => ({ first, zero: zero === null ? null : BigInt(zero) })),
     schemas: data.schemas.map(makeSchema),
     strings: data.strings,
     stacks: data.stacks,
@@ -520,10 +515,22 @@ function readTrace() {
     most: 0,
   };
   for (let event = 0; event < count; event++) readEvent(event);
+  forgetZeros(data.schemas);
   if (values.length !== trace.valuesAt[count]) throw new Error(\"values are missing in its data\");
   findTracks();
   pairEvents();
   makeLanes();
+}
+
+// Where two schemas of a file are alike in all that the data tells of them, annotations differ of which it tells
+// nothing, as clocks are. So each may be of a clock of its own, and the events of the file have no dates.
+function forgetZeros(schemas) {
+  const told = schemas.map(({ name, roles, fields }) => JSON.stringify([name, roles, fields]));
+  trace.clocks.forEach((clock, file) => {
+    const own = new Set(trace.schemaOf.subarray(clock.first, trace.clocks[file + 1]?.first));
+    clock.isMixed = clock.zero !== null && new Set(Array.from(own, (it) => told[it])).size < own.size;
+    if (clock.isMixed) clock.zero = null;
+  });
 }
 
 function readEvent(event) {
@@ -802,10 +809,11 @@ function exactly(number, places) {
   return (String(number).startsWith(\"-\") ? \"-\" : \"\") + whole + (places ? `.${digits.slice(-places)}` : \"\");
 }
 
-// The date of a time since the trace's start, where the zero of its clock is known.
-function dateText(time) {
-  if (trace.zero === null) return null;
-  const since = trace.zero + trace.start + BigInt(time);
+// The date of an event, where the zero of its file's clock is known.
+function dateText(event) {
+  const zero = trace.clocks.findLast(({ first }) => first <= event)?.zero ?? null;
+  if (zero === null) return null;
+  const since = zero + trace.start + BigInt(trace.exactTime[event]);
   const second = since / 1000000000n - (since % 1000000000n < 0n ? 1n : 0n);
   const date = new Date(Number(second) * 1000);
   if (Number.isNaN(date.getTime())) return null;
@@ -2366,7 +2374,7 @@ function placeTable(event) {
   const table = make(\"table\", {});
   table.append(rowOf(\"Time\", timeText(trace.time[event]), exact(`${exactly(time, 0)} ns`)));
   table.append(rowOf(\"Clock\", `${grouped(trace.start + BigInt(time))} ns`));
-  const date = dateText(time);
+  const date = dateText(event);
   if (date) table.append(rowOf(\"Date\", date));
   const length = trace.length[event];
   if (length >= 0) {
@@ -2545,8 +2553,11 @@ function showFacts() {
   }
   byId(\"facts\").textContent = byId(\"facts\").title = parts.join(\" \\u00b7 \");
   if (trace.end !== null) notice(`This trace was not read to its end: ${trace.end}`);
-  if (trace.hasNoDates) notice(\"There are no dates, since the events may be of several clocks. \" +
-    \"Then their times are not to be compared.\");
+  const zeros = trace.clocks.map(({ zero }) => zero).filter((it) => it !== null);
+  if (new Set(zeros).size > 1) notice(\"The files are of several clocks. Their dates are to be compared, \" +
+    \"and not their times.\");
+  if (trace.clocks.some(({ isMixed }) => isMixed)) notice(\"There are no dates where the events of one file \" +
+    \"may be of several clocks. Then their times are not to be compared.\");
 }
 
 // Says something above all else, below what was said there before.

@@ -1,5 +1,5 @@
 -- The parts of a page make the whole.
-use Rattle.std.proofs.Common.{◌≡◌, ℕ, ℤ, List, [], ◌∷◌, ◌++◌, Option, map as list_map, sym, ap, ◌∙◌}
+use Rattle.std.proofs.Common.{◌≡◌, ℕ, List, [], ◌∷◌, ◌++◌, Option, map as list_map, sym, ap, ◌∙◌}
 use Rattle.std.proofs.Common.{append_assoc}
 use Rattle.std.specs.Fmt.{decimal}
 use Rattle.std.specs.List.{flat_map}
@@ -10,10 +10,12 @@ use Rattle.json.specs.Token as token
 use Rattle.json.specs.Tree.{json_tokens}
 use Rattle.trace_json.specs.EventJson.{list_json, object_json}
 use Rattle.trace_json.specs.parts.Put.{member_tokens}
+use Rattle.trace_page.specs.Files.{clock_json}
 use Rattle.trace_page.specs.Holding.{head_tokens}
-use Rattle.trace_page.specs.PageSchemas.{zero_json, text_or_null, schema_json}
+use Rattle.trace_page.specs.PageSchemas.{text_or_null, schema_json}
 use Rattle.trace_page.specs.PageValues.{Tables}
 use Rattle.trace_page.specs.Pages.{columns_json, start_of}
+use Rattle.trace_page.specs.declared.clocks.FileClock.{FileClock}
 use Rattle.trace_page.specs.declared.schemas.PageSchema.{PageSchema}
 use Rattle.trace_page.specs.parts.Assembling.{columns_end, lists_tokens, last_tokens}
 use Rattle.trace_page.proofs.Chains.{list_tokens}
@@ -26,7 +28,7 @@ pub record Parts : Type 0 where
   pub places : List ℕ
   pub schemas : List PageSchema
   pub stacks : List Json
-  pub zero : Option ℤ
+  pub clocks : List FileClock
   pub name : List ℕ
   pub end : Option (List ℕ)
 
@@ -36,7 +38,8 @@ whole p =
     object_json
     ((codes "format", number (decimal 1)) ∷ (codes "events", columns_json p.values p.times p.places)
     ∷ (codes "stacks", list_json p.stacks) ∷ (codes "strings", list_json (list_map string p.tables.strings))
-    ∷ (codes "schemas", list_json (list_map schema_json p.schemas)) ∷ (codes "zero", zero_json p.zero)
+    ∷ (codes "schemas", list_json (list_map schema_json p.schemas))
+    ∷ (codes "clocks", list_json (list_map clock_json p.clocks))
     ∷ (codes "start", string (decimal (start_of p.times))) ∷ (codes "end", text_or_null p.end)
     ∷ (codes "name", string p.name) ∷ [])
 
@@ -51,7 +54,7 @@ pub record Written (p : Parts) (all : List Token) : Type 0 where
   pub columns : two ≡ one ++ columns_end p.times p.places
   pub lists : three ≡ two ++ lists_tokens p.tables p.stacks
   pub schemas : four ≡ three ++ member_tokens (codes "schemas", list_json (list_map schema_json p.schemas))
-  pub zero : five ≡ four ++ member_tokens (codes "zero", zero_json p.zero)
+  pub clocks : five ≡ four ++ member_tokens (codes "clocks", list_json (list_map clock_json p.clocks))
   pub last : all ≡ five ++ last_tokens (start_of p.times) p.name p.end
 
 -- the columns, and what comes after them
@@ -69,7 +72,8 @@ six_parts a b c d e f g = simp append_assoc
 abbrev rest_of : Parts → List Token
 rest_of p =
     member_tokens (codes "schemas", list_json (list_map schema_json p.schemas))
-    ++ (member_tokens (codes "zero", zero_json p.zero) ++ last_tokens (start_of p.times) p.name p.end)
+    ++ (member_tokens (codes "clocks", list_json (list_map clock_json p.clocks))
+    ++ last_tokens (start_of p.times) p.name p.end)
 
 parts_of : (p : Parts) → json_tokens (whole p)
     ≡ head_tokens ++ (flat_map json_tokens p.values
@@ -84,8 +88,9 @@ parts_of p =
 
 pub whole_written : (p : Parts) (all : List Token) → Written p all → all ≡ json_tokens (whole p)
 whole_written p all w =
-    rw (w.last, w.zero, w.schemas, w.lists, w.columns, w.values)
+    rw (w.last, w.clocks, w.schemas, w.lists, w.columns, w.values)
     (six_parts head_tokens (flat_map json_tokens p.values) (columns_end p.times p.places)
     (lists_tokens p.tables p.stacks) (member_tokens (codes "schemas", list_json (list_map schema_json p.schemas)))
-    (member_tokens (codes "zero", zero_json p.zero)) (last_tokens (start_of p.times) p.name p.end)
+    (member_tokens (codes "clocks", list_json (list_map clock_json p.clocks)))
+    (last_tokens (start_of p.times) p.name p.end)
     ∙ sym (parts_of p))

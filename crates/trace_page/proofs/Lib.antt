@@ -8,9 +8,9 @@ pub mod Growing
 pub mod Named
 pub mod MoreStand
 pub mod Counted
+pub mod Files
 pub mod Places
 pub mod Numerals
-pub mod Zeros
 pub mod Assembled
 pub mod Told
 pub mod Floats

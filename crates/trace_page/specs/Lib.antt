@@ -2,6 +2,7 @@ pub mod Escaping
 pub mod PageValues
 pub mod PageSchemas
 pub mod Counting
+pub mod Files
 pub mod Pages
 pub mod Sending
 pub mod Holding

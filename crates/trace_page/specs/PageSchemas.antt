@@ -1,14 +1,13 @@
 -- What JSON a schema is in the data of a page.
-use Rattle.std.specs.Prelude.{◌≡◌, ℕ, zero, suc, ℤ, List, [], ◌∷◌, ◌++◌, ◌⊎◌, Option, Some, None, codes, length}
+use Rattle.std.specs.Prelude.{ℕ, zero, suc, List, [], ◌∷◌, ◌++◌, Option, Some, None, codes, length}
 use Rattle.std.specs.Prelude.{if◌then◌else◌, nat_lt, option_map, slice_get}
-use Rattle.std.specs.Fmt.{decimal, signed_decimal}
+use Rattle.std.specs.Fmt.{decimal}
 use Rattle.json.specs.Json.{Json, null, number, string}
 use Rattle.trace_values.specs.FieldTypes.{tag}
 use Rattle.trace_wire.specs.Schemas.{Field, Entry}
 use Rattle.trace_json.specs.EventJson.{list_json, object_json}
 use Rattle.trace_roles.specs.Roles.{of_schema, note_of, field_with_role, track_of}
 use Rattle.trace_roles.specs.Units.{counter_of}
-use Rattle.trace_roles.specs.Clocks.{SaysClock}
 use Rattle.trace_roles.specs.declared.units.CounterKind.{CounterKind}
 use Rattle.trace_roles.specs.declared.units.CounterKind.TheVariants as kinds
 use Rattle.trace_page.specs.PageValues.{index_json, natural_json}
@@ -70,16 +69,3 @@ schema_json s =
     object_json
     ((codes "name", string s.entry.name) ∷ (codes "bytes", natural_json s.bytes) ∷ (codes "roles", roles_json s.entry)
     ∷ (codes "fields", list_json (first_fields s.entry (length s.entry.fields))) ∷ [])
-
--- the nanoseconds since 1970 at time 0 of the clock that the first schema with one says
-abbrev pub IsZero : List PageSchema → Option ℤ → Type 0
-IsZero [] told = told ≡ None
-IsZero (s ∷ ss) told =
-    let note = note_of s.entry of_schema (codes "clock") in
-    ((name : List ℕ) × (z : ℤ) × SaysClock note name z × (told ≡ Some z))
-    ⊎ (((name : List ℕ) (z : ℤ) → ¬ SaysClock note name z) × IsZero ss told)
-
--- that number as a string, or null where there is none
-abbrev pub zero_json : Option ℤ → Json
-zero_json (Some z) = string (signed_decimal z)
-zero_json None = null

@@ -1,5 +1,5 @@
 -- What JSON the data of a page is, and its text.
-use Rattle.std.specs.Prelude.{◌≡◌, ◌≤◌, ℕ, ℤ, List, [], ◌∷◌, ◌++◌, Option, Some, codes, get_or, map as list_map}
+use Rattle.std.specs.Prelude.{◌≡◌, ◌≤◌, ℕ, List, [], ◌∷◌, ◌++◌, Option, Some, codes, get_or, map as list_map}
 use Rattle.std.specs.Fmt.{decimal}
 use Rattle.std.specs.List.{AllZip}
 use Rattle.json.specs.Json.{Json, number, string, document, max_depth}
@@ -9,8 +9,9 @@ use Rattle.trace_json.specs.EventJson.{list_json, object_json}
 use Rattle.trace_json.specs.Lines.{json_text}
 use Rattle.trace_page.specs.Counting.{PageEvent, AreCounted}
 use Rattle.trace_page.specs.Escaping.{escaped}
+use Rattle.trace_page.specs.Files.{PageFile, events_of, clocks_of, clock_json}
 use Rattle.trace_page.specs.PageValues.{Tables, IsIndexOf, ArePageValues, index_json, time_json}
-use Rattle.trace_page.specs.PageSchemas.{schema_json, IsZero, zero_json, text_or_null}
+use Rattle.trace_page.specs.PageSchemas.{schema_json, text_or_null}
 use Rattle.trace_page.specs.declared.schemas.PageSchema.{PageSchema}
 
 -- ---- columns
@@ -43,28 +44,27 @@ columns_json values times places =
     ((codes "values", list_json values) ∷ (codes "time", list_json (list_map (time_json (start_of times)) times))
     ∷ (codes "schema", list_json (list_map index_json places)) ∷ [])
 
--- The data of a page of these events, under a name, with why reading ended.
-pub record IsPageJson (events : List PageEvent) (name : List ℕ) (end : Option (List ℕ)) (j : Json) : Type 0 where
+-- The data of a page of the events of these files, under a name, with why reading ended.
+pub record IsPageJson (files : List PageFile) (name : List ℕ) (end : Option (List ℕ)) (j : Json) : Type 0 where
   pub tables : Tables
   pub values : List Json
   pub places : List ℕ
   pub schemas : List PageSchema
   pub stacks : List Json
-  pub zero : Option ℤ
-  pub values_are : AreEventValues tables events values
-  pub schemas_are : AreCounted [] events places schemas
+  pub values_are : AreEventValues tables (events_of files) values
+  pub schemas_are : AreCounted [] (events_of files) places schemas
   pub stacks_are : AllZip (IsStack tables.strings) tables.stacks stacks
-  pub zero_is : IsZero schemas zero
   pub is : j ≡ object_json
-      ((codes "format", number (decimal 1)) ∷ (codes "events", columns_json values (times_of events) places)
+      ((codes "format", number (decimal 1)) ∷ (codes "events", columns_json values (times_of (events_of files)) places)
       ∷ (codes "stacks", list_json stacks) ∷ (codes "strings", list_json (list_map string tables.strings))
-      ∷ (codes "schemas", list_json (list_map schema_json schemas)) ∷ (codes "zero", zero_json zero)
-      ∷ (codes "start", string (decimal (start_of (times_of events)))) ∷ (codes "end", text_or_null end)
+      ∷ (codes "schemas", list_json (list_map schema_json schemas))
+      ∷ (codes "clocks", list_json (list_map clock_json (clocks_of 0 files)))
+      ∷ (codes "start", string (decimal (start_of (times_of (events_of files))))) ∷ (codes "end", text_or_null end)
       ∷ (codes "name", string name) ∷ [])
 
 -- The text of that data. Once it is escaped it is read back as the data, where this nests no deeper than readers go.
-pub record IsPageText (events : List PageEvent) (name : List ℕ) (end : Option (List ℕ)) (text : List ℕ) : Type 0 where
+pub record IsPageText (files : List PageFile) (name : List ℕ) (end : Option (List ℕ)) (text : List ℕ) : Type 0 where
   pub json : Json
-  pub is_page : IsPageJson events name end json
+  pub is_page : IsPageJson files name end json
   pub is : text ≡ json_text json
   pub reads_back : depth json ≤ max_depth → document (escaped text) ≡ Some json

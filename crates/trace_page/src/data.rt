@@ -2,6 +2,7 @@
 
 ghost use Rattle.std.specs.Prelude.{◌≡◌, []};
 
+use crate::clocks::FileClock;
 use crate::names::Names;
 use crate::schemas::PageSchema;
 use json::Writer;
@@ -9,6 +10,7 @@ use std::alloc::Global;
 
 mod calls;
 mod counting;
+mod files;
 mod writing;
 
 /// The data of a page that is told events (viewer/DATA.md).
@@ -24,6 +26,9 @@ pub struct PageData {
     pub(crate) schemas: Vec<PageSchema>,
     // where the schema of an event with such a wire id stood last
     pub(crate) guesses: [usize; 256],
+    // those of the files that ended, and how many events these have
+    pub(crate) clocks: Vec<FileClock>,
+    pub(crate) ended: usize,
     // whether no growth was refused
     pub(crate) is_whole: bool,
     ghost starts: { text.before ≡ [] },

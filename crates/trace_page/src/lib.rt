@@ -1,6 +1,7 @@
 //! The data of a page that shows a trace (viewer/DATA.md).
 #![tactic(auto)]
 
+mod clocks;
 mod columns;
 pub mod data;
 pub mod escaping;

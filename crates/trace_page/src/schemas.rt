@@ -11,14 +11,13 @@ ghost use Rattle.trace_json.specs.parts.Put.{Puts, PutsTokens};
 ghost use Rattle.trace_page.specs.PageSchemas.{text_or_null, index_or_null, roles_json};
 ghost use Rattle.trace_page.specs.PageSchemas.{counter_name};
 ghost use Rattle.trace_page.specs.PageSchemas.{unit_at, counter_at, field_json, field_at};
-ghost use Rattle.trace_page.specs.PageSchemas.{first_fields, schema_json, IsZero};
+ghost use Rattle.trace_page.specs.PageSchemas.{first_fields, schema_json};
 ghost use Rattle.trace_page.specs.PageValues.{natural_json};
 ghost use Rattle.trace_page.specs.parts.Writing.{PutsMember};
 
 use crate::numbers::{put_index, put_natural};
 use json::Writer;
 use std::alloc::AllocError;
-use trace_roles::clock::clock_of;
 use trace_roles::roles::{OF_SCHEMA, roles_of};
 use trace_roles::units::{CounterKind, counter_of, unit_of};
 use trace_values::tri;
@@ -42,18 +41,6 @@ pub(crate) fn put_each_schema(out: &mut Writer, schemas: &[PageSchema]) -> Resul
         put_schema(out, schema)?;
     }
     Ok(())
-}
-
-/// The nanoseconds since 1970 at time 0 of the clock that the first schema with one says.
-pub(crate) fn zero_of(schemas: &[PageSchema]) -> Option<i64>
-    ensures { IsZero schemas.now result }
-{
-    'schemas: for schema in schemas {
-        if let Some(clock) = clock_of(&schema.entry) {
-            return Some(clock.zero);
-        }
-    }
-    None
 }
 
 // Writes a schema, and how many bytes its events have.

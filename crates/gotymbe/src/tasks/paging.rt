@@ -1,6 +1,6 @@
 //! Writing a page that shows traces.
 
-use crate::clocks::zero_of;
+use crate::clocks::{zero_of, zero_said};
 use crate::output::Noted;
 use crate::pieces::{FrameSink, Picked, read_named};
 use crate::tasks::{Call, settle, tell};
@@ -21,6 +21,8 @@ use trace_values::leb128::TraceWrite;
 struct Gathered<'n> {
     data: PageData,
     picked: Picked<'n>,
+    // the zero of the clock that the file's first schema with one says
+    zero: Option<i64>,
 }
 
 impl FrameSink for Gathered<'_> {
@@ -34,6 +36,9 @@ impl FrameSink for Gathered<'_> {
         decoder: &'f FeedDecoder,
         bytes: u64,
     ) -> Result<(), Ending> {
+        if self.zero.is_none() {
+            self.zero = zero_said(frame, decoder);
+        }
         let Some(event) = self.picked.pick(frame, decoder)? else {
             return Ok(());
         };
@@ -62,16 +67,19 @@ pub(crate) fn write_page<W: TraceWrite + Drop>(
     let mut gathered = Gathered {
         data: PageData::new(rt.alloc())?,
         picked: Picked::of(call, None),
+        zero: None,
     };
     let mut ends = String::new(rt.alloc());
     let mut status = WHOLE;
     for name in call.asked.files.as_slice() {
-        gathered.picked = Picked::of(call, zero_of(rt, call, name));
+        gathered.zero = zero_of(rt, call, name);
+        gathered.picked = Picked::of(call, gathered.zero);
         let ending = read_named(rt, call, name, &mut gathered);
         status = status.max(tell(rt, name, ending)?);
         if ending == Ending::OutOfMemory {
             return Ok(status);
         }
+        gathered.data.end_file(gathered.zero)?;
         push_end(&mut ends, name, ending)?;
     }
     let title = title_of(call.asked.title, &call.asked.files);

@@ -4,11 +4,13 @@
 ghost use Rattle.std.specs.Prelude.{◌≡◌, OnOk, codes, map as list_map, option_map};
 ghost use Rattle.trace_json.specs.EventJson.{list_json};
 ghost use Rattle.trace_json.specs.parts.Put.{PutsTokens};
+ghost use Rattle.trace_page.specs.Files.{clock_json};
 ghost use Rattle.trace_page.specs.Holding.{head_tokens, tables_of};
-ghost use Rattle.trace_page.specs.PageSchemas.{schema_json, zero_json};
+ghost use Rattle.trace_page.specs.PageSchemas.{schema_json};
 ghost use Rattle.trace_page.specs.parts.Assembling.{columns_end, PutsLists, last_tokens};
 ghost use Rattle.trace_page.specs.parts.Writing.{Grows, PutsMember};
 
+use crate::clocks::{FileClock, put_each_clock};
 use crate::columns::{put_indexes, put_stacks, put_strings, put_times, start_of};
 use crate::names::Names;
 use crate::schemas::{PageSchema, put_each_schema, put_text_member};
@@ -76,16 +78,16 @@ pub(crate) fn put_schemas(out: &mut Writer, schemas: &[PageSchema]) -> Result<()
     out.end_array()
 }
 
-/// Writes the nanoseconds since 1970 at time 0, if these are known.
-pub(crate) fn put_zero(out: &mut Writer, zero: Option<i64>) -> Result<(), AllocError>
-    ensures tokens { PutsMember (codes "zero") (zero_json zero) out.old out.new result }
+/// Writes the clocks of the files.
+pub(crate) fn put_clocks(out: &mut Writer, clocks: &[FileClock]) -> Result<(), AllocError>
+    ensures tokens { PutsMember (codes "clocks") (list_json (list_map clock_json clocks.now))
+        out.old out.new result }
     ensures before { out.new.before ≡ out.old.before }
 {
-    tri!(out.key("zero"));
-    match zero {
-        Some(zero) => out.quoted_i64(zero),
-        None => out.null(),
-    }
+    tri!(out.key("clocks"));
+    tri!(out.begin_array());
+    tri!(put_each_clock(out, clocks));
+    out.end_array()
 }
 
 /// Writes the start, why reading ended, the name of the page, and the end of the data.

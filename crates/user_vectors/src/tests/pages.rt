@@ -33,8 +33,8 @@ const DATA: &str =
      \"end\":null},\"fields\":[{\"name\":\"size\",\"type\":11,\"unit\":null,\"counter\":null}]},\
      {\"name\":\"Sample\",\"bytes\":20,\"roles\":{\"tid\":null,\"duration\":null,\"name\":null,\"begin\":null,\
      \"end\":null},\"fields\":[{\"name\":\"stack\",\"type\":136,\"unit\":null,\"counter\":null},\
-     {\"name\":\"other\",\"type\":8,\"unit\":null,\"counter\":null}]}],\"zero\":null,\"start\":\"1\",\
-     \"end\":\"cut\",\"name\":\"a<b\"}";
+     {\"name\":\"other\",\"type\":8,\"unit\":null,\"counter\":null}]}],\"clocks\":[[0,\"-5\"],[8,null]],\
+     \"start\":\"1\",\"end\":\"cut\",\"name\":\"a<b\"}";
 
 // The data of a trace, where each event is said to have ten bytes.
 fn data_of(alloc: Global, trace: &[u8]) -> Result<PageData, AllocError> {
@@ -63,7 +63,10 @@ fn data_of(alloc: Global, trace: &[u8]) -> Result<PageData, AllocError> {
 fn data_of_events(rt: HostRuntime) -> Result<(), Fail> {
     let alloc = rt.alloc();
     let trace = hex::decode(alloc, EVENTS)?;
-    let text = data_of(alloc, &trace)?.finish("a<b", Some("cut"))?;
+    let mut data = data_of(alloc, &trace)?;
+    data.end_file(Some(-5))?;
+    data.end_file(None)?;
+    let text = data.finish("a<b", Some("cut"))?;
     assert!(rt; text.as_slice() == DATA.as_bytes());
     Ok(())
 }
@@ -76,7 +79,7 @@ fn data_of_no_event(rt: HostRuntime) -> Result<(), Fail> {
     push_escaped(&mut escaped, &text)?;
     let wanted =
         "{\"format\":1,\"events\":{\"values\":[],\"time\":[],\"schema\":[]},\"stacks\":[],\"strings\":[],\
-     \"schemas\":[],\"zero\":null,\"start\":\"0\",\"end\":null,\"name\":\"a\\u003cb\"}";
+     \"schemas\":[],\"clocks\":[],\"start\":\"0\",\"end\":null,\"name\":\"a\\u003cb\"}";
     assert!(rt; escaped.as_slice() == wanted.as_bytes());
     Ok(())
 }

@@ -1,12 +1,14 @@
 use Rattle.std.proofs.Common.{refl, rules}
 use Rattle.trace_events.specs.OwnedEvents.{owned_event}
+use Rattle.trace_page.specs.Counting.{PageEvent}
 use Rattle.trace_page.proofs.Told.{held_more}
 use Rattle.trace_page.proofs.data.PageData.add.Goals as goal
 
 pub returns-clause-added : goal.returns-clause-added
-returns-clause-added c = λ events holds.
+returns-clause-added c = λ files rest holds.
     let put = c.in_ok-put_values.ensures in
-    held_more events (record { shown = owned_event c.args.event.now; bytes = c.args.bytes }) c.args.self.now _ (record {
+    let e : PageEvent = record { shown = owned_event c.args.event.now; bytes = c.args.bytes } in
+    held_more files rest e c.args.self.now _ (record {
       own = put.tokens.all;
       place = c.in_ok-place.place;
       whole = refl;
@@ -16,5 +18,7 @@ returns-clause-added c = λ events holds.
       times = search rules;
       places = search rules;
       schemas = search rules;
+      clocks = refl;
+      ended = refl;
     })
     holds

@@ -1,0 +1,9 @@
+use Rattle.std.proofs.Common.{[], ◌∷◌, refl}
+use Rattle.trace_page.proofs.Chains.{chained}
+use Rattle.trace_page.proofs.clocks.put_clock.Goals as goal
+
+pub returns-4-clause-tokens : goal.returns-4-clause-tokens
+returns-4-clause-tokens c =
+    chained c.end_array.result _ (_ ∷ _ ∷ _ ∷ []) _ _ _
+    (_, c.in-Ok-tri.ensures.ok, (_, c.in-Ok-tri-2.ensures.tokens, (_, c.in-Ok-tri-3.ensures.tokens, refl)))
+    c.end_array.ensures.ok
