@@ -3,17 +3,24 @@ use Rattle.std.proofs.Common.{◌≡◌, ◌∙◌, ℕ, ◌<◌, List, [], ◌�
 use Rattle.std.proofs.Common.{Err, IsErr, refl, sym, ap, subst, append_assoc, append-nil, arith, string_bytes, String}
 use Rattle.std.proofs.Common.{Global}
 use Rattle.std.proofs.lemmas.List.{take-append-drop}
+use Rattle.std.specs.Cmp.{nat_cmp}
+use Rattle.std.specs.FinMap as map
+use Rattle.std.specs.Option.{option_map}
 use Rattle.std.specs.declared.io.ErrorKind.{ErrorKind}
 use Rattle.trace_values.specs.Number.{AreBytes}
 use Rattle.trace_values.specs.Sending.{Account, TookOnly}
-use Rattle.trace_values.specs.Values.{owned_reader}
+use Rattle.trace_values.specs.Values.{owned_reader, AreFields}
+use Rattle.trace_values.proofs.OptionsAndBytes.{some_is}
 use Rattle.trace_values.proofs.SendingLemmas.{TookOnly-none, TookOnly-join}
-use Rattle.trace_wire.specs.Frames.{Frame, Event}
-use Rattle.trace_wire.specs.Runs.{Begins, Item, EventItem}
+use Rattle.trace_wire.specs.Frames.{Event}
+use Rattle.trace_wire.specs.Registries.{entry_under}
+use Rattle.trace_wire.specs.Schemas.{Entry, Field, WireType, types_of}
+use Rattle.trace_wire.specs.WireTypes.{entry_of}
+use Rattle.trace_wire.specs.Runs.{Begins, EventItem}
 use Rattle.dial9_trace_format.specs.Decoding.{DecoderState, Goes}
-use Rattle.dial9_trace_format.specs.Feeding.{FeedState}
+use Rattle.dial9_trace_format.specs.Feeding.{Fed, FeedState}
 use Rattle.dial9_trace_format.specs.Pulling.{reader_of, standing_at}
-use Rattle.dial9_trace_format.specs.WholeEvents.{IsEventAt, IsWholeEvent}
+use Rattle.dial9_trace_format.specs.WholeEvents.{IsEventAt, IsWholeEvent, values_in}
 use Rattle.dial9_trace_format.specs.declared.decoder.feeding.whole.WholeEvent.{WholeEvent}
 use Rattle.dial9_trace_format.proofs.DecoderRuns.{at, event_step, goes_one}
 use Rattle.dial9_trace_format.proofs.PullingLemmas.{known_pulled, pushed}
@@ -68,10 +75,27 @@ event_begins s e whole fed =
       fed = fed_on s whole.version d frames fed whole.has_version goes;
     })
 
+-- its fields are spelled by the bytes of its values
+pub event_spelled :
+    {s : FeedState} {e : WholeEvent} {m : map.FinMap nat_cmp WireType} {entry : Entry} {fields : List Field}
+    {bytes : List ℕ} (whole : IsWholeEvent s e) → m ≡ s.grammar.wire_types
+    → Some entry ≡ entry_under m e.type_id.0 → fields ≡ entry.fields → bytes ≡ values_in s.kept e
+    → AreFields owned_reader (types_of fields) bytes whole.at.values
+event_spelled {s} {e} {m} {entry} {fields} {bytes} whole same found fields_are bytes_are =
+    let known = whole.at in
+    let vs = known.values in
+    let entry_is : entry ≡ entry_of known.wire_type =
+    some_is entry (entry_of known.wire_type) (found
+    ∙ ap (λ (x : map.FinMap nat_cmp WireType). entry_under x e.type_id.0) same
+    ∙ ap (option_map entry_of) known.known) in
+    let is : fields ≡ known.wire_type.shape.fields = fields_are ∙ ap (λ (x : Entry). x.fields) entry_is in
+    subst (λ (x : List ℕ). AreFields owned_reader (types_of fields) x vs) (sym bytes_are)
+    (subst (λ (x : List Field). AreFields owned_reader (types_of x) (values_in s.kept e) vs) (sym is) known.spelled)
+
 -- ---- the next lines
 
 -- that of an event
-pub event_put :
+event_put :
     {W : Type 0} (told : W → Account) (s t : Lines W) (old new : FeedState) (e : WholeEvent)
     (r : Result Next LineFault) (whole : IsWholeEvent old e) → IsFed old
     → PutsEvent (LineGrows told) e whole.at.values s t old new r → PutsNext told s t old new r
@@ -86,6 +110,18 @@ event_put told s t old new e (Ok next) whole fed (is, grows, pulls) =
     )
 event_put told s t old new e (Err fault) whole fed grows =
     (line (event_line e.type_id.0 e.timestamp_ns whole.at.values), event_begins old e whole fed, grows)
+
+-- the same where nothing was read before
+pub event_put_then :
+    {W : Type 0} (told : W → Account) (s t : Lines W) {old mid : Fed} (new : FeedState) (e : WholeEvent)
+    (r : Result Next LineFault) → mid ≡ old → IsWholeEvent old.state e → IsFed old.state
+    → ((whole : IsWholeEvent mid.state e)
+    → PutsEvent (LineGrows told) e whole.at.values s t mid.state new r) → PutsNext told s t old.state new r
+event_put_then told s t {old} {mid} new e r same whole fed puts =
+    let whole_then = subst (λ (f : Fed). IsWholeEvent f.state e) (sym same) whole in
+    let fed_then = subst (λ (f : Fed). IsFed f.state) (sym same) fed in
+    subst (λ (f : Fed). PutsNext told s t f.state new r) same
+    (event_put told s t mid.state new e r whole_then fed_then (puts whole_then))
 
 -- those of the frame that was pulled
 pub lines_put :
@@ -316,7 +352,7 @@ begins_shorter old piece written following is begins = λ more fits.
 from_none :
     {a b : Account} {held rest : List ℕ} (text : List ℕ) → held ≡ [] → Leaves a b (held ++ text) rest
     → Leaves a b text rest
-from_none {a} {b} {rest = rest} text none left =
+from_none {a = a} {b} {rest = rest} text none left =
     subst (λ (x : List ℕ). Leaves a b (x ++ text) rest) none left
 
 -- a fault within what is held then
@@ -348,7 +384,7 @@ all_sent told s t {c} old new piece end none (text, are, out) took =
     let a = told s.out.now in
     let b = told t.out.now in
     let held = string_bytes t.held in
-    let left = from_none {a} {b} {rest = held} text none out.bytes in (
+    let left = from_none {a = a} {b} {rest = held} text none out.bytes in (
       text,
       are,
       subst (λ (x : List ℕ). TookOnly a c x []) (sym left.is)
@@ -366,7 +402,7 @@ all_not_sent told s t old new piece end n r i none (text, are, out) took =
     let a = told s.out.now in
     let b = told t.out.now in
     let held = string_bytes t.held in
-    let left = from_none {a} {b} {rest = held} text none out.bytes in
+    let left = from_none {a = a} {b} {rest = held} text none out.bytes in
     front_sent old new piece text held [] n r i (gathered_begins {E = LineFault} old new piece text (Ok end) are)
     (subst (λ (x : List ℕ). Leaves a b text x) (sym (append-nil held)) left) took
 
@@ -380,7 +416,7 @@ some_sent told s t {c} old new piece e none (text, begins, out) took =
     let b = told t.out.now in
     let held = string_bytes t.held in
     let (after, bytes) = out.bytes in
-    let left = from_none {a} {b} {rest = held ++ after} text none bytes in
+    let left = from_none {a = a} {b} {rest = held ++ after} text none bytes in
     let written = left.sent ++ held in (
       written,
       begins_shorter old piece written after (left.is ∙ sym (append_assoc left.sent held after)) begins,
@@ -399,7 +435,7 @@ pub some_not_sent :
 some_not_sent told s t old new piece n r i none (text, begins, out) took =
     let (after, bytes) = out.bytes in
     front_sent old new piece text (string_bytes t.held) after n r i begins
-    (from_none {told s.out.now} {told t.out.now} {rest = string_bytes t.held ++ after} text none bytes) took
+    (from_none {a = told s.out.now} {told t.out.now} {rest = string_bytes t.held ++ after} text none bytes) took
 
 -- the writer had failed
 pub writer_failed :

@@ -1,5 +1,5 @@
 -- Parts of lines that are appended as they are read from bytes.
-use Rattle.std.proofs.Common.{◌≡◌, ◌∙◌, ℕ, suc, ◌+◌, ◌-◌, ◌<◌, ◌≤◌, List, [], ◌∷◌, ◌++◌, drop, Option, Some}
+use Rattle.std.proofs.Common.{◌≡◌, ◌∙◌, ℕ, zero, suc, ◌+◌, ◌-◌, ◌<◌, ◌≤◌, List, [], ◌∷◌, ◌++◌, drop, Option, Some}
 use Rattle.std.proofs.Common.{None, Result, Ok, Err, Bool, true, false, append-nil, codes, map as list_map}
 use Rattle.std.proofs.Common.{refl, sym, ap, subst, add-one, arith, get_or, length, take}
 use Rattle.std.proofs.lemmas.List.{take_rest}
@@ -9,12 +9,12 @@ use Rattle.std.specs.Prelude.{◌==◌}
 use Rattle.trace_values.specs.declared.types.field_type.FieldType.{FieldType}
 use Rattle.trace_values.specs.declared.types.field_type.FieldType.TheVariants as types
 use Rattle.trace_values.specs.FieldTypes.{from_tag, inner, is_optional}
-use Rattle.trace_values.specs.Reading.{◌>>=◌, InnerReading, as_value, count_at, item_at, many_at, pair_at}
+use Rattle.trace_values.specs.Reading.{◌>>=◌, InnerReading, as_value, byte_at, count_at, item_at, many_at, pair_at}
 use Rattle.trace_values.specs.Reading.{plain_at, times_at, field_at, field_by, fields_at, value_at}
 use Rattle.trace_values.specs.Reading.{values_to_items, values_to_pairs}
 use Rattle.trace_values.specs.Limits.{most_items}
 use Rattle.trace_values.specs.Values.{Value, owned_reader, absent, list, map, AreFields, IsValue}
-use Rattle.trace_values.proofs.OptionsAndBytes.{as_value_some, bind_some, some_is}
+use Rattle.trace_values.proofs.OptionsAndBytes.{as_value_some, bind_some, none_some, some_is}
 use Rattle.trace_values.proofs.FieldsAsRead.{fields_again}
 use Rattle.trace_values.proofs.ValuesAsRead.{value_again}
 use Rattle.trace_lines.specs.Lines.{spaced_value, value_text}
@@ -68,6 +68,23 @@ pub puts_same :
     {result : Result (Bor (List ℕ)) E} → o ≡ p → PutsRead grows text p s t result → PutsRead grows text o s t result
 puts_same {grows = grows} {text} {s = s} {t} {result} is puts =
     subst (λ (x : Read _). PutsRead grows text x s t result) (sym is) puts
+
+-- what was read was appended
+pub read_put :
+    {S E A : Type 0} {grows : Growth S E} {text : A → List ℕ} (v : A) (rest : Bor (List ℕ)) {s t : S}
+    → grows s (text v) (Ok tt) t → PutsRead grows text (Some (v, rest.now)) s t (Ok rest)
+read_put {grows = grows} {text} v rest {s} {t} put =
+    puts_all (Some (v, rest.now)) rest (λ x is.
+    subst (λ (y : _ × List ℕ). grows s (text y.0) (Ok tt) t × (rest.now ≡ y.1)) (some_is (v, rest.now) x is)
+    (put, refl))
+
+-- or it was not
+pub read_not_put :
+    {S E A : Type 0} {grows : Growth S E} {text : A → List ℕ} (v : A) (rest : List ℕ) {s t : S} (e : E)
+    → grows s (text v) (Err e) t → PutsRead grows text (Some (v, rest)) s t (Err e)
+read_not_put {grows = grows} {text} v rest {s} {t} e put =
+    puts_not (Some (v, rest)) e (λ x is.
+    subst (λ (y : _ × List ℕ). grows s (text y.0) (Err e) t) (some_is (v, rest) x is) put)
 
 -- the first byte, and what stands after it
 pub front_byte : (bytes : List ℕ) → 1 ≤ length bytes
@@ -495,20 +512,30 @@ pub field_plain : (t : FieldType) (s : List ℕ) → is_optional t ≡ false
 unfolding field_at
 field_plain t s e = ap (λ (b : Bool). field_by b owned_reader t s) e
 
+front_is : (bytes : List ℕ) (x : ℕ) (rest : List ℕ) → byte_at bytes ≡ Some (x, rest) → bytes ≡ x ∷ rest
+front_is [] x rest e = absurd (none_some (x, rest) e)
+front_is (y ∷ s) x rest e = ap (λ (p : ℕ × List ℕ). p.0 ∷ p.1) (some_is (y, s) (x, rest) e)
+
+not_zero : (x : ℕ) → (x ≡ 0 → ⊥) → (x == 0) ≡ false
+not_zero zero h = absurd (h refl)
+not_zero (suc x) h = refl
+
 -- one that is absent
-pub field_absent : (t : FieldType) (bytes rest : List ℕ) → is_optional t ≡ true → bytes ≡ 0 ∷ rest
-    → field_at owned_reader t bytes ≡ Some (absent, rest)
+pub field_absent : (t : FieldType) (bytes : List ℕ) (x : ℕ) (rest : List ℕ) → is_optional t ≡ true
+    → byte_at bytes ≡ Some (x, rest) → x ≡ 0 → field_at owned_reader t bytes ≡ Some (absent, rest)
 unfolding field_at
-field_absent t bytes rest e is =
-    ap (λ (b : Bool). field_by b owned_reader t bytes) e ∙ ap (λ (x : List ℕ). field_by true owned_reader t x) is
+field_absent t bytes x rest e first zero_is =
+    ap (λ (b : Bool). field_by b owned_reader t bytes) e
+    ∙ ap (λ (s : List ℕ). field_by true owned_reader t s) (front_is bytes x rest first
+    ∙ ap (λ (y : ℕ). y ∷ rest) zero_is)
 
 -- one that is there
-pub field_present : (t : FieldType) (bytes : List ℕ) (x : ℕ) (rest : List ℕ) → is_optional t ≡ true → bytes ≡ x ∷ rest
-    → (x == 0) ≡ false → field_at owned_reader t bytes ≡ value_at owned_reader 33 t rest
+pub field_present : (t : FieldType) (bytes : List ℕ) (x : ℕ) (rest : List ℕ) → is_optional t ≡ true
+    → byte_at bytes ≡ Some (x, rest) → (x ≡ 0 → ⊥) → field_at owned_reader t bytes ≡ value_at owned_reader 33 t rest
 unfolding field_at
-field_present t bytes x rest e is there =
-    ap (λ (b : Bool). field_by b owned_reader t bytes) e ∙ ap (λ (x : List ℕ). field_by true owned_reader t x) is
-    ∙ rw there refl
+field_present t bytes x rest e first there =
+    ap (λ (b : Bool). field_by b owned_reader t bytes) e
+    ∙ ap (λ (s : List ℕ). field_by true owned_reader t s) (front_is bytes x rest first) ∙ rw (not_zero x there) refl
 
 -- ---- fields one after another
 

@@ -17,7 +17,7 @@ use crate::value::{Shown, push_line_value};
 use std::alloc::{AllocError, Global};
 use trace_values::tri;
 use trace_values::types::limits::{MAX_ITEMS, MAX_LEVELS};
-use trace_values::types::parts::{count_at, type_with_tag};
+use trace_values::types::parts::{byte_at, count_at, type_with_tag};
 use trace_values::types::{FieldType, FieldValue};
 use trace_wire::schema::{FieldDef, WireTypeId};
 
@@ -98,14 +98,14 @@ fn push_field_at<'a, L: GrowingLine>(
     if !field_type.is_optional() {
         return push_value_at(alloc, out, MAX_LEVELS, field_type, bytes);
     }
-    match bytes {
-        [] => Err(out.refusal()),
-        [0, rest @ ..] => {
-            tri!(out.put("None"));
-            Ok(rest)
-        }
-        [_, rest @ ..] => push_value_at(alloc, out, MAX_LEVELS, field_type, rest),
+    let Ok((present, rest)) = byte_at(bytes) else {
+        return Err(out.refusal());
+    };
+    if present == 0 {
+        tri!(out.put("None"));
+        return Ok(rest);
     }
+    push_value_at(alloc, out, MAX_LEVELS, field_type, rest)
 }
 
 // Appends the value of a type at the front of the bytes, of at most so many levels, its own among them, and answers the

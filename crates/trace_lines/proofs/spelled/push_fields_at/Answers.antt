@@ -15,7 +15,7 @@ fields-preserved g c =
     let d = dropped_field c.args.fields.now c.fields.field-index c.field-item.result c.fields-test.true c.field-item.is
     ∙ ap (λ (x : FieldType). x ∷ drop (c.fields.field-index + 1) types) (sym c.field_type.ensures) in
     fields_go_on types c.field_type.result g.met.L.GrowingLine.joins d c.fields.invariant c.in-Ok-tri.ensures
-    c.in-Ok-tri-2.ensures
+    c.in-Ok-tri-rest.ensures
 
 pub returns-in-fields : goal.returns-in-fields
 returns-in-fields g c =
@@ -31,7 +31,7 @@ returns-in-fields-2 g c =
     let d = dropped_field c.args.fields.now c.fields.field-index c.field-item.result c.fields-test.true c.field-item.is
     ∙ ap (λ (x : FieldType). x ∷ drop (c.fields.field-index + 1) types) (sym c.field_type.ensures) in
     fields_stop types c.field_type.result c.fields.field-index c.args.bytes.now c.fields.rest.now _ _ _
-    g.met.L.GrowingLine.joins g.met.L.GrowingLine.stops d c.fields.invariant c.in-Ok-tri.ensures c.in-Err-tri-2.ensures
+    g.met.L.GrowingLine.joins g.met.L.GrowingLine.stops d c.fields.invariant c.in-Ok-tri.ensures c.in-Err-tri-rest.ensures
 
 pub returns : goal.returns
 returns g c =
