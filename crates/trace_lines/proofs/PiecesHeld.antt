@@ -1,11 +1,11 @@
 -- The lines of a piece, which are held, and sent as they grow.
-use Rattle.std.proofs.Common.{◌≡◌, ◌∙◌, ℕ, ◌<◌, List, [], ◌∷◌, ◌++◌, length, take, drop, Option, Some, None, Result, Ok}
-use Rattle.std.proofs.Common.{Err, IsErr, refl, sym, ap, subst, append_assoc, append-nil, arith, string_bytes, String}
+use Rattle.std.proofs.Common.{◌≡◌, ◌∙◌, ℕ, ◌-◌, ◌<◌, List, [], ◌∷◌, ◌++◌, length, take, drop, Option, Some, None, Result}
+use Rattle.std.proofs.Common.{Ok, Err, IsErr, refl, sym, ap, subst, append_assoc, append-nil, arith, string_bytes, String}
 use Rattle.std.proofs.Common.{Global}
 use Rattle.std.proofs.lemmas.List.{take-append-drop}
-use Rattle.std.specs.Cmp.{nat_cmp}
 use Rattle.std.specs.FinMap as map
 use Rattle.std.specs.Option.{option_map}
+use Rattle.std.specs.Ordering.{nat_cmp}
 use Rattle.std.specs.declared.io.ErrorKind.{ErrorKind}
 use Rattle.trace_values.specs.Number.{AreBytes}
 use Rattle.trace_values.specs.Sending.{Account, TookOnly}
@@ -24,6 +24,7 @@ use Rattle.dial9_trace_format.specs.WholeEvents.{IsEventAt, IsWholeEvent, values
 use Rattle.dial9_trace_format.specs.declared.decoder.feeding.whole.WholeEvent.{WholeEvent}
 use Rattle.dial9_trace_format.proofs.DecoderRuns.{at, event_step, goes_one}
 use Rattle.dial9_trace_format.proofs.PullingLemmas.{known_pulled, pushed}
+use Rattle.trace_lines.specs.Dumps.{PrintsUpToFault}
 use Rattle.trace_lines.specs.Lines.{line, item_line, event_line}
 use Rattle.trace_lines.specs.declared.pieces.Next.{Next}
 use Rattle.trace_lines.specs.declared.pieces.Next.TheVariants.{Line, Wait, End}
@@ -352,7 +353,7 @@ begins_shorter old piece written following is begins = λ more fits.
 from_none :
     {a b : Account} {held rest : List ℕ} (text : List ℕ) → held ≡ [] → Leaves a b (held ++ text) rest
     → Leaves a b text rest
-from_none {a = a} {b} {rest = rest} text none left =
+from_none {a = a} {b = b} {rest = rest} text none left =
     subst (λ (x : List ℕ). Leaves a b (x ++ text) rest) none left
 
 -- a fault within what is held then
@@ -376,15 +377,15 @@ front_sent {a = a} {b} {c} {kind} old new piece text held after n (Err e) i begi
 
 -- where all lines are held, they are sent
 pub all_sent :
-    {W E : Type 0} (told : W → Account) (s t : Lines W) {c : Account} (old new : FeedState) (piece : List ℕ)
+    {W : Type 0} (told : W → Account) (s t : Lines W) {c : Account} (old new : FeedState) (piece : List ℕ)
     (end : Option ℕ) → string_bytes s.held ≡ [] → GathersSent told s t old piece new (Ok end)
     → TookOnly (told t.out.now) c (string_bytes t.held) []
-    → SendsPiece {E = E} (told s.out.now) c old piece new (Ok end)
+    → (lines : List ℕ) × ArePieceLines old piece new lines end × TookOnly (told s.out.now) c lines []
 all_sent told s t {c} old new piece end none (text, are, out) took =
     let a = told s.out.now in
     let b = told t.out.now in
     let held = string_bytes t.held in
-    let left = from_none {a = a} {b} {rest = held} text none out.bytes in (
+    let left = from_none {a = a} {b = b} {rest = held} text none out.bytes in (
       text,
       are,
       subst (λ (x : List ℕ). TookOnly a c x []) (sym left.is)
@@ -402,21 +403,21 @@ all_not_sent told s t old new piece end n r i none (text, are, out) took =
     let a = told s.out.now in
     let b = told t.out.now in
     let held = string_bytes t.held in
-    let left = from_none {a = a} {b} {rest = held} text none out.bytes in
+    let left = from_none {a = a} {b = b} {rest = held} text none out.bytes in
     front_sent old new piece text held [] n r i (gathered_begins {E = LineFault} old new piece text (Ok end) are)
     (subst (λ (x : List ℕ). Leaves a b text x) (sym (append-nil held)) left) took
 
 -- where a growth was refused, those that are held are sent
 pub some_sent :
-    {W E : Type 0} (told : W → Account) (s t : Lines W) {c : Account} (old new : FeedState) (piece : List ℕ) (e : E)
+    {W : Type 0} (told : W → Account) (s t : Lines W) {c : Account} (old new : FeedState) (piece : List ℕ)
     → string_bytes s.held ≡ [] → GathersSent told s t old piece new (Err OutOfMemory)
-    → TookOnly (told t.out.now) c (string_bytes t.held) [] → SendsPiece (told s.out.now) c old piece new (Err e)
-some_sent told s t {c} old new piece e none (text, begins, out) took =
+    → TookOnly (told t.out.now) c (string_bytes t.held) [] → PrintsUpToFault (LinesBegin old piece) (told s.out.now) c
+some_sent told s t {c} old new piece none (text, begins, out) took =
     let a = told s.out.now in
     let b = told t.out.now in
     let held = string_bytes t.held in
     let (after, bytes) = out.bytes in
-    let left = from_none {a = a} {b} {rest = held ++ after} text none bytes in
+    let left = from_none {a = a} {b = b} {rest = held ++ after} text none bytes in
     let written = left.sent ++ held in (
       written,
       begins_shorter old piece written after (left.is ∙ sym (append_assoc left.sent held after)) begins,
@@ -435,14 +436,14 @@ pub some_not_sent :
 some_not_sent told s t old new piece n r i none (text, begins, out) took =
     let (after, bytes) = out.bytes in
     front_sent old new piece text (string_bytes t.held) after n r i begins
-    (from_none {a = told s.out.now} {told t.out.now} {rest = string_bytes t.held ++ after} text none bytes) took
+    (from_none {a = told s.out.now} {b = told t.out.now} {rest = string_bytes t.held ++ after} text none bytes) took
 
 -- the writer had failed
 pub writer_failed :
-    {W E : Type 0} (told : W → Account) (s t : Lines W) (old new : FeedState) (piece : List ℕ) (e : E)
+    {W : Type 0} (told : W → Account) (s t : Lines W) (old new : FeedState) (piece : List ℕ)
     → string_bytes s.held ≡ [] → GathersSent told s t old piece new (Err Unsent)
-    → SendsPiece (told s.out.now) (told t.out.now) old piece new (Err e)
-writer_failed told s t old new piece e none (text, begins, out) =
+    → PrintsUpToFault (LinesBegin old piece) (told s.out.now) (told t.out.now)
+writer_failed told s t old new piece none (text, begins, out) =
     let (written, (following, is), faults, few, took) = out.bytes in (
       written,
       begins_shorter old piece written following (ap (λ (x : List ℕ). x ++ text) (sym none) ∙ is) begins,

@@ -1,7 +1,7 @@
 -- Parts of lines that are appended as they are read from bytes.
-use Rattle.std.proofs.Common.{◌≡◌, ◌∙◌, ℕ, zero, suc, ◌+◌, ◌-◌, ◌<◌, ◌≤◌, List, [], ◌∷◌, ◌++◌, drop, Option, Some}
+use Rattle.std.proofs.Common.{◌≡◌, ◌∙◌, ℕ, suc, ◌+◌, ◌-◌, ◌<◌, ◌≤◌, List, [], ◌∷◌, ◌++◌, drop, Option, Some}
 use Rattle.std.proofs.Common.{None, Result, Ok, Err, Bool, true, false, append-nil, codes, map as list_map}
-use Rattle.std.proofs.Common.{refl, sym, ap, subst, add-one, arith, get_or, length, take}
+use Rattle.std.proofs.Common.{refl, sym, ap, subst, add-one, arith, get_or, length, nat_tests, take}
 use Rattle.std.proofs.lemmas.List.{take_rest}
 use Rattle.std.specs.Borrow.{Bor}
 use Rattle.std.specs.List.{flat_map, join_by}
@@ -320,9 +320,11 @@ pair_put {grows = grows} read bytes rest {s} {m} {n} t (Ok after) joins key equa
     let (x, first, y, second, same) = pair_parts read bytes z is in
     let k = was_put (item_at read bytes) rest key first in
     let v = was_put (item_at read rest.now) after value (ap (item_at read) k.1 ∙ second) in
-    subst (λ (w : (Value × Value) × List ℕ). grows s (pair_value_text w.0) (Ok tt) t × (after.now ≡ w.1)) same
-    (joins s n t (value_text x.0 ++ codes "=") (value_text y.0) (Ok tt)
-    (joins s m n (value_text x.0) (codes "=") (Ok tt) k.0 equals) v.0, v.1))
+    subst (λ (w : (Value × Value) × List ℕ). grows s (pair_value_text w.0) (Ok tt) t × (after.now ≡ w.1)) same (
+      joins s n t (value_text x.0 ++ codes "=") (value_text y.0) (Ok tt)
+          (joins s m n (value_text x.0) (codes "=") (Ok tt) k.0 equals) v.0,
+      v.1,
+    ))
 pair_put {grows = grows} read bytes rest {s} {m} {n} t (Err e) joins key equals value =
     puts_not (pair_at read bytes) e (λ z is.
     let (x, first, y, second, same) = pair_parts read bytes z is in
@@ -517,8 +519,7 @@ front_is [] x rest e = absurd (none_some (x, rest) e)
 front_is (y ∷ s) x rest e = ap (λ (p : ℕ × List ℕ). p.0 ∷ p.1) (some_is (y, s) (x, rest) e)
 
 not_zero : (x : ℕ) → (x ≡ 0 → ⊥) → (x == 0) ≡ false
-not_zero zero h = absurd (h refl)
-not_zero (suc x) h = refl
+not_zero x h = grind (arith, nat_tests)
 
 -- one that is absent
 pub field_absent : (t : FieldType) (bytes : List ℕ) (x : ℕ) (rest : List ℕ) → is_optional t ≡ true

@@ -15,11 +15,11 @@ ghost use Rattle.trace_lines.specs.parts.Sent.{Sends};
 ghost use Rattle.trace_lines.specs.Program.{DumpsAll};
 
 use crate::dump::{CONFLICT, DumpError, FAILED, NO_HEADER, STOPPED, WHOLE};
+use crate::growing::GrowingLine;
 use crate::lines::{
     push_conflict_line, push_first_line, push_frame_line, push_no_header_line, push_stopped_line,
     push_whole_line,
 };
-use crate::growing::GrowingLine;
 use crate::sent_lines::{ENOUGH, LineFault, Lines};
 use crate::spelled::push_spelled_line;
 use dial9_trace_format::decoder::{

@@ -14,8 +14,8 @@ lines-smaller g c =
     (one_more_held g.W.TraceWrite.told c.hold_next.new.lines c.hold_next.new.decoder.state c.in-Line.is
     c.lines.invariant c.in-Ok-tri.ensures).1
 
-pub returns : goal.returns
-returns g c =
+pub returns-in-lines : goal.returns-in-lines
+returns-in-lines g c =
     next_refused g.W.TraceWrite.told c.hold_next.new.lines c.hold_next.new.decoder.state _ c.lines.invariant
     c.in-Err-tri.ensures
 

@@ -18,8 +18,8 @@ returns-then-present-eq0 g c =
     (sym c.is_optional.ensures.optional ∙ c.if-not-is_optional.false) c.in-Ok.ensures c.if-present-eq0.true)
     (read_not_put absent _ _ c.in-Err-tri.ensures)
 
-pub returns-in-Ok-tri : goal.returns-in-Ok-tri
-returns-in-Ok-tri g c =
+pub returns-then-present-eq0-2 : goal.returns-then-present-eq0-2
+returns-then-present-eq0-2 g c =
     puts_same (field_absent c.args.field_type c.args.bytes.now _ _
     (sym c.is_optional.ensures.optional ∙ c.if-not-is_optional.false) c.in-Ok.ensures c.if-present-eq0.true)
     (read_put absent _ c.in-Ok-tri.ensures)
