@@ -1,7 +1,8 @@
 -- Parts of lines that are appended as they are read from bytes.
 use Rattle.std.proofs.Common.{◌≡◌, ◌∙◌, ℕ, suc, ◌+◌, ◌-◌, ◌<◌, ◌≤◌, List, [], ◌∷◌, ◌++◌, drop, Option, Some}
 use Rattle.std.proofs.Common.{None, Result, Ok, Err, Bool, true, false, append-nil, codes, map as list_map}
-use Rattle.std.proofs.Common.{refl, sym, ap, subst, add-one, arith, get_or, length, nat_tests, take}
+use Rattle.std.proofs.Common.{refl, sym, ap, subst, add-one, arith, get_or, length, take}
+use Rattle.std.proofs.lemmas.Bool.Decides.{nat_tests}
 use Rattle.std.proofs.lemmas.List.{take_rest}
 use Rattle.std.specs.Borrow.{Bor}
 use Rattle.std.specs.List.{flat_map, join_by}
