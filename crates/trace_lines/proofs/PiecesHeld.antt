@@ -1,7 +1,7 @@
 -- The lines of a piece, which are held, and sent as they grow.
-use Rattle.std.proofs.Common.{◌≡◌, ◌∙◌, ℕ, ◌-◌, ◌<◌, List, [], ◌∷◌, ◌++◌, length, take, drop, Option, Some, None, Result}
-use Rattle.std.proofs.Common.{Ok, Err, IsErr, refl, sym, ap, subst, append_assoc, append-nil, arith, string_bytes, String}
-use Rattle.std.proofs.Common.{Global}
+use Rattle.std.proofs.Common.{◌≡◌, ◌∙◌, ℕ, ◌-◌, ◌<◌, List, [], ◌∷◌, ◌++◌, length, take, drop, Option, Some, None}
+use Rattle.std.proofs.Common.{Result, Ok, Err, IsErr, refl, sym, ap, subst, append_assoc, append-nil, arith}
+use Rattle.std.proofs.Common.{string_bytes, String, Global}
 use Rattle.std.proofs.lemmas.List.{take-append-drop}
 use Rattle.std.specs.FinMap as map
 use Rattle.std.specs.Option.{option_map}
@@ -168,12 +168,16 @@ next_begins old new text (End status) ends = λ more fits.
 
 -- ---- and then held
 
+-- what an answer says of lines that were to be made after the line had been cleared
+abbrev pub MakesNext : {W : Type 0} → (W → Account) → Lines W → Lines W → String Global → FeedState → FeedState
+    → Result Next LineFault → Type 0
+MakesNext told s m l old new r = (string_bytes l ≡ []) × PutsNext told (record s { line = l }) m old new r
+
 -- they were not made
 pub next_fails :
     {W : Type 0} (told : W → Account) (s m : Lines W) (l : String Global) (old new : FeedState) (f : LineFault)
-    → string_bytes l ≡ [] → PutsNext told (record s { line = l }) m old new (Err f)
-    → HoldsNext told s m old new (Err f)
-next_fails told s m l old new f none (text, begins, went) =
+    → MakesNext told s m l old new (Err f) → HoldsNext told s m old new (Err f)
+next_fails told s m l old new f (none, (text, begins, went)) =
     let held = string_bytes m.held in
     let a = told s.out.now in
     let b = told m.out.now in
@@ -190,9 +194,9 @@ next_fails told s m l old new f none (text, begins, went) =
 -- they were
 pub next_held :
     {W : Type 0} (told : W → Account) (s m : Lines W) (l h : String Global) (old new : FeedState) (next : Next)
-    → string_bytes l ≡ [] → PutsNext told (record s { line = l }) m old new (Ok next) → string_bytes h ≡ unsent m
+    → MakesNext told s m l old new (Ok next) → string_bytes h ≡ unsent m
     → HoldsNext told s (record m { held = h }) old new (Ok next)
-next_held told s m l h old new next none (text, are, went) is = (
+next_held told s m l h old new next (none, (text, are, went)) is = (
   text,
   are,
   record {
@@ -206,9 +210,9 @@ next_held told s m l h old new next none (text, are, went) is = (
 -- they were, and then a growth was refused
 pub next_not_held :
     {W : Type 0} (told : W → Account) (s m : Lines W) (l h : String Global) (old new : FeedState) (next : Next)
-    → string_bytes l ≡ [] → PutsNext told (record s { line = l }) m old new (Ok next)
-    → string_bytes h ≡ string_bytes m.held → HoldsNext told s (record m { held = h }) old new (Err OutOfMemory)
-next_not_held told s m l h old new next none (text, are, went) is = (
+    → MakesNext told s m l old new (Ok next) → string_bytes h ≡ string_bytes m.held
+    → HoldsNext told s (record m { held = h }) old new (Err OutOfMemory)
+next_not_held told s m l h old new next (none, (text, are, went)) is = (
   text,
   next_begins old new text next are,
   record {
@@ -356,13 +360,15 @@ from_none :
 from_none {a = a} {b = b} {rest = rest} text none left =
     subst (λ (x : List ℕ). Leaves a b (x ++ text) rest) none left
 
+-- a fault within bytes that were to be sent
+abbrev pub FailsWithin : Account → Account → List ℕ → Type 0
+FailsWithin a b held = (kind : ErrorKind) × (n : ℕ) × TookOnly a b (take n held) (kind ∷ [])
+
 -- a fault within what is held then
 front_sent :
-    {E : Type 0} {a b c : Account} {kind : ErrorKind} (old new : FeedState) (piece text held after : List ℕ) (n : ℕ)
-    (r : Result (Option ℕ) E) → IsErr r → LinesBegin old piece text → Leaves a b text (held ++ after)
-    → TookOnly b c (take n held) (kind ∷ []) → SendsPiece a c old piece new r
-front_sent old new piece text held after n (Ok x) i begins left took = absurd cc
-front_sent {a = a} {b} {c} {kind} old new piece text held after n (Err e) i begins left took =
+    {a b c : Account} (old : FeedState) (piece text held after : List ℕ) → LinesBegin old piece text
+    → Leaves a b text (held ++ after) → FailsWithin b c held → PrintsUpToFault (LinesBegin old piece) a c
+front_sent {a} {b} {c} old piece text held after begins left (kind, n, took) =
     let written = left.sent ++ take n held in
     let is : text ≡ written ++ (drop n held ++ after) =
     left.is ∙ ap (λ (x : List ℕ). left.sent ++ (x ++ after)) (sym (take-append-drop n held))
@@ -374,6 +380,13 @@ front_sent {a = a} {b} {c} {kind} old new piece text held after n (Err e) i begi
       omega arith,
       TookOnly-join a b c left.sent (take n held) [] (kind ∷ []) left.took took,
     )
+
+-- what an error says of it
+pub failed_sending :
+    {E : Type 0} {a b : Account} (old new : FeedState) (piece : List ℕ) (r : Result (Option ℕ) E) → IsErr r
+    → PrintsUpToFault (LinesBegin old piece) a b → SendsPiece a b old piece new r
+failed_sending old new piece (Ok x) i printed = absurd cc
+failed_sending old new piece (Err e) i printed = printed
 
 -- where all lines are held, they are sent
 pub all_sent :
@@ -394,18 +407,16 @@ all_sent told s t {c} old new piece end none (text, are, out) took =
 
 -- or they are not
 pub all_not_sent :
-    {W E : Type 0} (told : W → Account) (s t : Lines W) {c : Account} {kind : ErrorKind} (old new : FeedState)
-    (piece : List ℕ) (end : Option ℕ) (n : ℕ) (r : Result (Option ℕ) E) → IsErr r → string_bytes s.held ≡ []
-    → GathersSent told s t old piece new (Ok end)
-    → TookOnly (told t.out.now) c (take n (string_bytes t.held)) (kind ∷ [])
-    → SendsPiece (told s.out.now) c old piece new r
-all_not_sent told s t old new piece end n r i none (text, are, out) took =
+    {W : Type 0} (told : W → Account) (s t : Lines W) {c : Account} (old new : FeedState) (piece : List ℕ)
+    (end : Option ℕ) → string_bytes s.held ≡ [] → GathersSent told s t old piece new (Ok end)
+    → FailsWithin (told t.out.now) c (string_bytes t.held) → PrintsUpToFault (LinesBegin old piece) (told s.out.now) c
+all_not_sent told s t old new piece end none (text, are, out) fails =
     let a = told s.out.now in
     let b = told t.out.now in
     let held = string_bytes t.held in
     let left = from_none {a = a} {b = b} {rest = held} text none out.bytes in
-    front_sent old new piece text held [] n r i (gathered_begins {E = LineFault} old new piece text (Ok end) are)
-    (subst (λ (x : List ℕ). Leaves a b text x) (sym (append-nil held)) left) took
+    front_sent old piece text held [] (gathered_begins {E = LineFault} old new piece text (Ok end) are)
+    (subst (λ (x : List ℕ). Leaves a b text x) (sym (append-nil held)) left) fails
 
 -- where a growth was refused, those that are held are sent
 pub some_sent :
@@ -428,15 +439,14 @@ some_sent told s t {c} old new piece none (text, begins, out) took =
 
 -- or they are not
 pub some_not_sent :
-    {W E : Type 0} (told : W → Account) (s t : Lines W) {c : Account} {kind : ErrorKind} (old new : FeedState)
-    (piece : List ℕ) (n : ℕ) (r : Result (Option ℕ) E) → IsErr r → string_bytes s.held ≡ []
-    → GathersSent told s t old piece new (Err OutOfMemory)
-    → TookOnly (told t.out.now) c (take n (string_bytes t.held)) (kind ∷ [])
-    → SendsPiece (told s.out.now) c old piece new r
-some_not_sent told s t old new piece n r i none (text, begins, out) took =
+    {W : Type 0} (told : W → Account) (s t : Lines W) {c : Account} (old new : FeedState) (piece : List ℕ)
+    → string_bytes s.held ≡ [] → GathersSent told s t old piece new (Err OutOfMemory)
+    → FailsWithin (told t.out.now) c (string_bytes t.held) → PrintsUpToFault (LinesBegin old piece) (told s.out.now) c
+some_not_sent told s t old new piece none (text, begins, out) fails =
     let (after, bytes) = out.bytes in
-    front_sent old new piece text (string_bytes t.held) after n r i begins
-    (from_none {a = told s.out.now} {b = told t.out.now} {rest = string_bytes t.held ++ after} text none bytes) took
+    let held = string_bytes t.held in
+    front_sent old piece text held after begins
+    (from_none {a = told s.out.now} {b = told t.out.now} {rest = held ++ after} text none bytes) fails
 
 -- the writer had failed
 pub writer_failed :

@@ -50,6 +50,7 @@ pub as_one : (frames : List Frame) (shown : Item) → items frames ≡ shown ∷
     → item_lines (items frames) ≡ line (item_line shown)
 as_one frames shown e = ap item_lines e ∙ append-nil (line (item_line shown))
 
+-- the line of a frame comes
 pub known_frame :
     (s new : FeedState) (v : ℕ) (shown : Item) → IsFed s → s.version ≡ Some v → PullsFrame s new (Ok (Some shown)) →
     LinesCome s [] new (line (item_line shown)) × IsFed new × (length new.kept < length s.kept)

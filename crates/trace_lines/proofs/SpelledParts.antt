@@ -11,14 +11,15 @@ use Rattle.trace_values.specs.declared.types.field_type.FieldType.{FieldType}
 use Rattle.trace_values.specs.declared.types.field_type.FieldType.TheVariants as types
 use Rattle.trace_values.specs.FieldTypes.{from_tag, inner, is_optional}
 use Rattle.trace_values.specs.Reading.{◌>>=◌, InnerReading, as_value, byte_at, count_at, item_at, many_at, pair_at}
-use Rattle.trace_values.specs.Reading.{plain_at, times_at, field_at, field_by, fields_at, value_at}
+use Rattle.trace_values.specs.Reading.{plain_at, times_at, field_at, field_by, fields_at, value_at, text_pair_at}
+use Rattle.trace_values.specs.Reading.{counted_at}
 use Rattle.trace_values.specs.Reading.{values_to_items, values_to_pairs}
 use Rattle.trace_values.specs.Limits.{most_items}
-use Rattle.trace_values.specs.Values.{Value, owned_reader, absent, list, map, AreFields, IsValue}
+use Rattle.trace_values.specs.Values.{Value, owned_reader, absent, list, map, texts, AreFields, IsValue}
 use Rattle.trace_values.proofs.OptionsAndBytes.{as_value_some, bind_some, none_some, some_is}
 use Rattle.trace_values.proofs.FieldsAsRead.{fields_again}
 use Rattle.trace_values.proofs.ValuesAsRead.{value_again}
-use Rattle.trace_lines.specs.Lines.{spaced_value, value_text}
+use Rattle.trace_lines.specs.Lines.{pair_text, spaced_value, value_text}
 use Rattle.trace_lines.specs.parts.Lines.{comma_before}
 use Rattle.trace_lines.specs.parts.SpelledLines.{PutsRead, pair_value_text}
 use Rattle.trace_lines.proofs.GrowingParts.{Growth, Empty, Joins, Stops, IsLeft, all_left, part_put, part_not_put}
@@ -58,6 +59,7 @@ pub was_put :
     → grows s (text x.0) (Ok tt) t × (rest.now ≡ x.1)
 was_put o rest {x = x} p is = p.puts x is
 
+-- or that it was not appended
 pub was_not_put :
     {S E A : Type 0} {grows : Growth S E} {text : A → List ℕ} (o : Read A) {s t : S} (e : E) {x : A × List ℕ}
     → PutsRead grows text o s t (Err e) → o ≡ Some x → grows s (text x.0) (Err e) t
@@ -236,11 +238,11 @@ items_go_on one {shown} {n} {i} {rest = rest} {after} {m} {k} {t} joins lt befor
 
 -- its comma is not appended
 pub items_stop_first :
-    {S E A : Type 0} {grows : Growth S E} (one : List ℕ → Option (A × List ℕ)) {shown : A → List ℕ} (n i : ℕ) {s : S}
-    (bytes : List ℕ) (rest : List ℕ) {m : S} (t : S) (e : E) → Stops grows → i < n
+    {S E A : Type 0} {grows : Growth S E} (one : List ℕ → Option (A × List ℕ)) {shown : A → List ℕ} {n i : ℕ} {s : S}
+    {bytes rest : List ℕ} {m t : S} {e : E} → Stops grows → i < n
     → ItemsLeft grows one shown n s bytes i rest m → grows m (comma_before i) (Err e) t
     → PutsRead grows (λ xs. join_by shown (codes ",") xs) (times_at one n bytes) s t (Err e)
-items_stop_first one {shown} n i bytes rest {m} t e stops lt before comma =
+items_stop_first one {shown} {n} {i} {bytes = bytes} {rest} {m} {t} {e} stops lt before comma =
     puts_not (times_at one n bytes) e (λ x is.
     let (others, read, is_left) = before.left x is in
     let (v, first, more, then, same) = next_item one n i rest others x.1 lt read in
@@ -250,12 +252,12 @@ items_stop_first one {shown} n i bytes rest {m} t e stops lt before comma =
 
 -- it is not appended itself
 pub items_stop :
-    {S E A : Type 0} {grows : Growth S E} (one : List ℕ → Option (A × List ℕ)) {shown : A → List ℕ} (n i : ℕ) {s : S}
-    (bytes : List ℕ) (rest : List ℕ) {m : S} (k t : S) (e : E) → Joins grows → Stops grows → i < n
+    {S E A : Type 0} {grows : Growth S E} (one : List ℕ → Option (A × List ℕ)) {shown : A → List ℕ} {n i : ℕ} {s : S}
+    {bytes rest : List ℕ} {m k t : S} {e : E} → Joins grows → Stops grows → i < n
     → ItemsLeft grows one shown n s bytes i rest m → grows m (comma_before i) (Ok tt) k
     → PutsRead grows shown (one rest) k t (Err e)
     → PutsRead grows (λ xs. join_by shown (codes ",") xs) (times_at one n bytes) s t (Err e)
-items_stop one {shown} n i bytes rest {m} k t e joins stops lt before comma put =
+items_stop one {shown} {n} {i} {bytes = bytes} {rest} {m} {k} {t} {e} joins stops lt before comma put =
     puts_not (times_at one n bytes) e (λ x is.
     let (others, read, is_left) = before.left x is in
     let (v, first, more, then, same) = next_item one n i rest others x.1 lt read in
@@ -346,13 +348,15 @@ same_values : {A : Type 0} (xs : List A) → list_map (λ x. x) xs ≡ xs
 same_values [] = refl
 same_values (x ∷ xs) = ap (λ (ys : List _). x ∷ ys) (same_values xs)
 
--- a list, and a map
+-- a list of these
 abbrev pub of_list : (vs : List Value) → Value
 of_list vs = list (values_to_items vs)
 
+-- a map of these pairs
 abbrev pub of_map : (ps : List (Value × Value)) → Value
 of_map ps = map (values_to_pairs ps)
 
+-- how both are shown, and a map of texts
 pub list_shown : InBrackets of_list (λ vs. join_by value_text (codes ",") vs) (codes "List:[") (codes "]")
 list_shown = record {
   shown = λ vs.
@@ -367,6 +371,9 @@ map_shown = record {
       ∙ text_of_map (λ p. p) ps;
 }
 
+pub texts_shown : InBrackets texts (λ ps. join_by pair_text (codes ",") ps) (codes "StringMap:{") (codes "}")
+texts_shown = record { shown = λ ps. refl }
+
 -- a list is its items, so many as its count says
 pub list_read :
     (read : InnerReading) (bytes : List ℕ) (n : ℕ) (rest : List ℕ) → count_at most_items bytes ≡ Some (n, rest)
@@ -374,11 +381,32 @@ pub list_read :
 unfolding plain_at many_at
 list_read read bytes n rest e = rw e refl
 
+-- a map is its pairs
 pub map_read :
     (read : InnerReading) (bytes : List ℕ) (n : ℕ) (rest : List ℕ) → count_at most_items bytes ≡ Some (n, rest)
     → plain_at owned_reader read types.DynamicMap bytes ≡ as_value of_map (times_at (pair_at read) n rest)
 unfolding plain_at many_at
 map_read read bytes n rest e = rw e refl
+
+-- a map of texts is its pairs
+pub texts_by :
+    (levels m : ℕ) (t : FieldType) (s : List ℕ) → levels ≡ suc m → inner t ≡ types.StringMap
+    → value_at owned_reader levels t s ≡ as_value texts (many_at most_items text_pair_at s)
+unfolding plain_at
+texts_by levels m t s more is = value_by levels m t types.StringMap s more is
+
+pub texts_read :
+    (bytes : List ℕ) (n : ℕ) (rest : List ℕ) → count_at most_items bytes ≡ Some (n, rest)
+    → as_value texts (many_at most_items text_pair_at bytes) ≡ as_value texts (times_at text_pair_at n rest)
+unfolding many_at
+texts_read bytes n rest e = rw e refl
+
+-- a pair of texts is two of them
+pub text_pair_read :
+    (bytes key after value rest : List ℕ) → counted_at bytes ≡ Some (key, after) → counted_at after ≡ Some (value, rest)
+    → text_pair_at bytes ≡ Some ((key, value), rest)
+unfolding text_pair_at
+text_pair_read bytes key after value rest first second = rw (first, second) refl
 
 -- all of it is left
 brackets_left :
@@ -429,8 +457,8 @@ closed {grows = grows} f {inside} {opening} {closing} o rest {s} {m} {n} t in_br
 pub not_closed :
     {S E A : Type 0} {grows : Growth S E} (f : List A → Value) {inside : List A → List ℕ} {opening closing : List ℕ}
     (o : Option (List A × List ℕ)) (rest : Bor (List ℕ)) {s m n : S} (t : S) (e : E)
-    → InBrackets f inside opening closing → Joins grows → grows s opening (Ok tt) m → PutsRead grows inside o m n (Ok rest)
-    → grows n closing (Err e) t → PutsRead grows value_text (as_value f o) s t (Err e)
+    → InBrackets f inside opening closing → Joins grows → grows s opening (Ok tt) m
+    → PutsRead grows inside o m n (Ok rest) → grows n closing (Err e) t → PutsRead grows value_text (as_value f o) s t (Err e)
 not_closed {grows = grows} f {inside} {opening} {closing} o rest {s} {m} {n} t e in_brackets joins first held last =
     puts_not (as_value f o) e (λ x is.
     let (xs, read, same) = as_value_some f o x.0 x.1 is in
@@ -595,11 +623,11 @@ fields_go_on ts t {i} {rest = rest} {after} {m} {k} {n} joins first before space
 
 -- the space before it is not appended
 pub fields_stop_first :
-    {S E : Type 0} {grows : Growth S E} (ts : List FieldType) (t : FieldType) (i : ℕ) {s : S} (bytes rest : List ℕ)
-    {m : S} (n : S) (e : E) → Stops grows → drop i ts ≡ t ∷ drop (i + 1) ts → FieldsLeft grows ts s bytes i rest m
+    {S E : Type 0} {grows : Growth S E} (ts : List FieldType) (t : FieldType) {i : ℕ} {s : S} {bytes rest : List ℕ}
+    {m n : S} {e : E} → Stops grows → drop i ts ≡ t ∷ drop (i + 1) ts → FieldsLeft grows ts s bytes i rest m
     → grows m (codes " ") (Err e) n
     → PutsRead grows (λ vs. flat_map spaced_value vs) (fields_at owned_reader ts bytes) s n (Err e)
-fields_stop_first ts t i bytes rest {m} n e stops first before space =
+fields_stop_first ts t {i} {bytes = bytes} {rest} {m} {n} {e} stops first before space =
     puts_not (fields_at owned_reader ts bytes) e (λ x is.
     let (others, read, is_left) = before.left x is in
     let (v, one, more, then, same) = next_field t (drop (i + 1) ts) rest others x.1
@@ -610,12 +638,12 @@ fields_stop_first ts t i bytes rest {m} n e stops first before space =
 
 -- its value is not
 pub fields_stop :
-    {S E : Type 0} {grows : Growth S E} (ts : List FieldType) (t : FieldType) (i : ℕ) {s : S} (bytes rest : List ℕ)
-    {m : S} (k n : S) (e : E) → Joins grows → Stops grows → drop i ts ≡ t ∷ drop (i + 1) ts
+    {S E : Type 0} {grows : Growth S E} (ts : List FieldType) (t : FieldType) {i : ℕ} {s : S} {bytes rest : List ℕ}
+    {m k n : S} {e : E} → Joins grows → Stops grows → drop i ts ≡ t ∷ drop (i + 1) ts
     → FieldsLeft grows ts s bytes i rest m → grows m (codes " ") (Ok tt) k
     → PutsRead grows value_text (field_at owned_reader t rest) k n (Err e)
     → PutsRead grows (λ vs. flat_map spaced_value vs) (fields_at owned_reader ts bytes) s n (Err e)
-fields_stop ts t i bytes rest {m} k n e joins stops first before space put =
+fields_stop ts t {i} {bytes = bytes} {rest} {m} {k} {n} {e} joins stops first before space put =
     puts_not (fields_at owned_reader ts bytes) e (λ x is.
     let (others, read, is_left) = before.left x is in
     let (v, one, more, then, same) = next_field t (drop (i + 1) ts) rest others x.1

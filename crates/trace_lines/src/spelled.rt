@@ -1,23 +1,26 @@
 //! Events as they stand in a line, their values read from the bytes that spell them, one by one (docs/FORMAT.md,
-//! "Dumps"). Of a list or a map no value is kept.
+//! "Dumps"). Of a list or a map no value is kept, and of a map of texts no pair.
 
 ghost use Rattle.std.specs.Prelude.{◌≡◌, ◌++◌, [], codes, List};
 ghost use Rattle.std.specs.List.{flat_map, join_by};
 ghost use Rattle.trace_values.specs.declared.types.field_type.FieldType.TheVariants as types;
 ghost use Rattle.trace_values.specs.Reading.{value_at, plain_at, item_at, pair_at, times_at, field_at, fields_at};
-ghost use Rattle.trace_values.specs.Values.{Value, owned_reader, AreFields};
+ghost use Rattle.trace_values.specs.Reading.{as_value, many_at, text_pair_at};
+ghost use Rattle.trace_values.specs.Limits.{most_items};
+ghost use Rattle.trace_values.specs.Values.{Value, owned_reader, texts, AreFields};
 ghost use Rattle.trace_wire.specs.Schemas.{types_of};
 ghost use Rattle.trace_lines.specs.Appending.{AppendsText};
-ghost use Rattle.trace_lines.specs.Lines.{line, event_line, spaced_value, value_text};
+ghost use Rattle.trace_lines.specs.Lines.{line, event_line, pair_text, spaced_value, value_text};
 ghost use Rattle.trace_lines.specs.parts.SpelledLines.{PutsRead, event_start, pair_value_text};
 
 use crate::growing::{CommaBefore, GrowingLine, LinePart};
 use crate::text::push_decimal;
+use crate::text_maps::push_text_pair;
 use crate::value::{Shown, push_line_value};
 use std::alloc::{AllocError, Global};
 use trace_values::tri;
 use trace_values::types::limits::{MAX_ITEMS, MAX_LEVELS};
-use trace_values::types::parts::{byte_at, count_at, type_with_tag};
+use trace_values::types::parts::{byte_at, count_at, counted_at, type_with_tag};
 use trace_values::types::{FieldType, FieldValue};
 use trace_wire::schema::{FieldDef, WireTypeId};
 
@@ -127,11 +130,73 @@ fn push_value_at<'a, L: GrowingLine>(
     match field_type.inner() {
         FieldType::DynamicList => push_list_at(alloc, out, levels - 1, bytes),
         FieldType::DynamicMap => push_map_at(alloc, out, levels - 1, bytes),
+        FieldType::StringMap => push_texts_at(out, bytes),
         plain => push_plain_at(alloc, out, plain, bytes),
     }
 }
 
-// The same of a value of a plain type that is no list and no map: it is made, and then appended.
+// The same of a map of texts.
+fn push_texts_at<'a, L: GrowingLine>(out: &mut L, bytes: &'a [u8]) -> Result<&'a [u8], L::Fault>
+    ensures { PutsRead L.grows value_text (as_value texts (many_at most_items text_pair_at bytes.now))
+        out.old out.new result }
+{
+    let Ok((count, rest)) = count_at(MAX_ITEMS, bytes) else {
+        return Err(out.refusal());
+    };
+    tri!(out.put("StringMap:{"));
+    let rest = tri!(push_text_pairs_at(out, count, rest));
+    tri!(out.put("}"));
+    Ok(rest)
+}
+
+// Appends so many pairs of texts, with commas between them.
+fn push_text_pairs_at<'a, L: GrowingLine>(
+    out: &mut L,
+    count: u32,
+    bytes: &'a [u8],
+) -> Result<&'a [u8], L::Fault>
+    ensures { PutsRead L.grows (λ ps. join_by pair_text (codes ",") ps)
+        (times_at text_pair_at count bytes.now) out.old out.new result }
+{
+    let mut rest = bytes;
+    'pairs: for index in 0..count as usize {
+        tri!(out.put(CommaBefore(index)));
+        rest = tri!(push_text_pair_at(out, rest));
+    }
+    Ok(rest)
+}
+
+// Appends the pair of texts at the front.
+fn push_text_pair_at<'a, L: GrowingLine>(out: &mut L, bytes: &'a [u8]) -> Result<&'a [u8], L::Fault>
+    ensures { PutsRead L.grows pair_text (text_pair_at bytes.now) out.old out.new result }
+{
+    let Ok((key, after)) = counted_at(bytes) else {
+        return Err(out.refusal());
+    };
+    let Ok((value, rest)) = counted_at(after) else {
+        return Err(out.refusal());
+    };
+    tri!(out.put_on(QuotedPair { key, value }));
+    Ok(rest)
+}
+
+// A key and its value, both in quotes.
+#[derive(Clone, Copy)]
+struct QuotedPair<'a> {
+    key: &'a [u8],
+    value: &'a [u8],
+}
+
+impl<'a> LinePart for QuotedPair<'a> {
+    ghost text = { λ p. pair_text (p.key.now, p.value.now) };
+
+    #[inline(always)]
+    fn push_to(self, out: &mut String) -> Result<(), AllocError> {
+        push_text_pair(out, self.key, self.value)
+    }
+}
+
+// The same of a value of any other plain type: it is made, and then appended.
 fn push_plain_at<'a, L: GrowingLine>(
     alloc: Global,
     out: &mut L,

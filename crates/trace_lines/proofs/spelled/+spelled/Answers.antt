@@ -7,8 +7,8 @@ use Rattle.trace_lines.specs.parts.SpelledLines.{PutsRead, pair_value_text}
 use Rattle.trace_lines.proofs.SpelledParts.{closed, equals_not_put, inner_inner, item_by, items_begin, items_end}
 use Rattle.trace_lines.proofs.SpelledParts.{items_go_on, items_stop, items_stop_first, key_not_put, list_read}
 use Rattle.trace_lines.proofs.SpelledParts.{list_shown, map_read, map_shown, not_closed, not_filled, not_opened}
-use Rattle.trace_lines.proofs.SpelledParts.{of_list, of_map, pair_put, plain_at_level, puts_refused, puts_same, value_by}
-use Rattle.trace_lines.proofs.SpelledParts.{front_byte}
+use Rattle.trace_lines.proofs.SpelledParts.{of_list, of_map, pair_put, plain_at_level, puts_refused, puts_same}
+use Rattle.trace_lines.proofs.SpelledParts.{front_byte, texts_by, value_by}
 use Rattle.trace_lines.proofs.spelled.+spelled.Goals as goal
 
 -- ---- items and pairs
@@ -52,14 +52,13 @@ push_items_at-items-preserved g t c =
 
 pub push_items_at-returns-in-items : goal.push_items_at-returns-in-items
 push_items_at-returns-in-items g t c =
-    items_stop_first (item_at (value_at owned_reader c.args.levels)) c.args.count c.items.index c.args.bytes.now
-    c.items.rest.now _ _ g.met.L.GrowingLine.stops c.items-test.true c.items.invariant c.in-Err-tri.ensures
+    items_stop_first (item_at (value_at owned_reader c.args.levels)) g.met.L.GrowingLine.stops c.items-test.true
+    c.items.invariant c.in-Err-tri.ensures
 
 pub push_items_at-returns-in-items-2 : goal.push_items_at-returns-in-items-2
 push_items_at-returns-in-items-2 g t c =
-    items_stop (item_at (value_at owned_reader c.args.levels)) c.args.count c.items.index c.args.bytes.now
-    c.items.rest.now _ _ _ g.met.L.GrowingLine.joins g.met.L.GrowingLine.stops c.items-test.true c.items.invariant
-    c.in-Ok-tri.ensures c.in-Err-tri-rest.ensures
+    items_stop (item_at (value_at owned_reader c.args.levels)) g.met.L.GrowingLine.joins g.met.L.GrowingLine.stops
+    c.items-test.true c.items.invariant c.in-Ok-tri.ensures c.in-Err-tri-rest.ensures
 
 pub push_items_at-returns : goal.push_items_at-returns
 push_items_at-returns g t c =
@@ -78,14 +77,13 @@ push_pairs_at-pairs-preserved g t c =
 
 pub push_pairs_at-returns-in-pairs : goal.push_pairs_at-returns-in-pairs
 push_pairs_at-returns-in-pairs g t c =
-    items_stop_first (pair_at (value_at owned_reader c.args.levels)) c.args.count c.pairs.index c.args.bytes.now
-    c.pairs.rest.now _ _ g.met.L.GrowingLine.stops c.pairs-test.true c.pairs.invariant c.in-Err-tri.ensures
+    items_stop_first (pair_at (value_at owned_reader c.args.levels)) g.met.L.GrowingLine.stops c.pairs-test.true
+    c.pairs.invariant c.in-Err-tri.ensures
 
 pub push_pairs_at-returns-in-pairs-2 : goal.push_pairs_at-returns-in-pairs-2
 push_pairs_at-returns-in-pairs-2 g t c =
-    items_stop (pair_at (value_at owned_reader c.args.levels)) c.args.count c.pairs.index c.args.bytes.now
-    c.pairs.rest.now _ _ _ g.met.L.GrowingLine.joins g.met.L.GrowingLine.stops c.pairs-test.true c.pairs.invariant
-    c.in-Ok-tri.ensures c.in-Err-tri-rest.ensures
+    items_stop (pair_at (value_at owned_reader c.args.levels)) g.met.L.GrowingLine.joins g.met.L.GrowingLine.stops
+    c.pairs-test.true c.pairs.invariant c.in-Ok-tri.ensures c.in-Err-tri-rest.ensures
 
 pub push_pairs_at-returns : goal.push_pairs_at-returns
 push_pairs_at-returns g t c =
@@ -172,6 +170,12 @@ push_value_at-returns-in-DynamicMap g t c =
     puts_same
     (value_by c.args.levels (c.args.levels - 1) c.args.field_type _ c.args.bytes.now more
     (sym c.inner.ensures ∙ c.in-DynamicMap.is)) c.push_map_at.ensures
+
+pub push_value_at-returns-in-StringMap : goal.push_value_at-returns-in-StringMap
+push_value_at-returns-in-StringMap g t c =
+    let more : c.args.levels ≡ suc (c.args.levels - 1) = omega (arith, c.if-levels-eq0.false) in
+    puts_same (texts_by c.args.levels (c.args.levels - 1) c.args.field_type c.args.bytes.now more
+    (sym c.inner.ensures ∙ c.in-StringMap.is)) c.push_texts_at.ensures
 
 pub push_value_at-returns-in_default : goal.push_value_at-returns-in_default
 push_value_at-returns-in_default g t c =

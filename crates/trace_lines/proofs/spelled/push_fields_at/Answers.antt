@@ -22,16 +22,15 @@ returns-in-fields g c =
     let types = types_of c.args.fields.now in
     let d = dropped_field c.args.fields.now c.fields.field-index c.field-item.result c.fields-test.true
     c.field-item.is in
-    fields_stop_first types _ c.fields.field-index c.args.bytes.now c.fields.rest.now _ _ g.met.L.GrowingLine.stops d
-    c.fields.invariant c.in-Err-tri.ensures
+    fields_stop_first types _ g.met.L.GrowingLine.stops d c.fields.invariant c.in-Err-tri.ensures
 
 pub returns-in-fields-2 : goal.returns-in-fields-2
 returns-in-fields-2 g c =
     let types = types_of c.args.fields.now in
     let d = dropped_field c.args.fields.now c.fields.field-index c.field-item.result c.fields-test.true c.field-item.is
     ∙ ap (λ (x : FieldType). x ∷ drop (c.fields.field-index + 1) types) (sym c.field_type.ensures) in
-    fields_stop types c.field_type.result c.fields.field-index c.args.bytes.now c.fields.rest.now _ _ _
-    g.met.L.GrowingLine.joins g.met.L.GrowingLine.stops d c.fields.invariant c.in-Ok-tri.ensures c.in-Err-tri-rest.ensures
+    fields_stop types c.field_type.result g.met.L.GrowingLine.joins g.met.L.GrowingLine.stops d c.fields.invariant
+    c.in-Ok-tri.ensures c.in-Err-tri-rest.ensures
 
 pub returns : goal.returns
 returns g c =
