@@ -46,6 +46,7 @@ fed_on s v d frames f e g = record {
   begins = λ none. absurd (let x : Some v ≡ None = sym e ∙ none in cc);
 }
 
+-- the line of the one item of frames
 pub as_one : (frames : List Frame) (shown : Item) → items frames ≡ shown ∷ []
     → item_lines (items frames) ≡ line (item_line shown)
 as_one frames shown e = ap item_lines e ∙ append-nil (line (item_line shown))

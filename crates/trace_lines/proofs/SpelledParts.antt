@@ -1,6 +1,6 @@
 -- Parts of lines that are appended as they are read from bytes.
 use Rattle.std.proofs.Common.{◌≡◌, ◌∙◌, ℕ, suc, ◌+◌, ◌-◌, ◌<◌, ◌≤◌, List, [], ◌∷◌, ◌++◌, drop, Option, Some}
-use Rattle.std.proofs.Common.{None, Result, Ok, Err, Bool, true, false, append-nil, codes, map as list_map}
+use Rattle.std.proofs.Common.{Result, Ok, Err, Bool, true, false, append-nil, codes, map as list_map}
 use Rattle.std.proofs.Common.{refl, sym, ap, subst, add-one, arith, get_or, length, take}
 use Rattle.std.proofs.lemmas.Bool.Decides.{nat_tests}
 use Rattle.std.proofs.lemmas.List.{take_rest}
@@ -388,13 +388,14 @@ pub map_read :
 unfolding plain_at many_at
 map_read read bytes n rest e = rw e refl
 
--- a map of texts is its pairs
+-- a map of texts is read by its plain type
 pub texts_by :
     (levels m : ℕ) (t : FieldType) (s : List ℕ) → levels ≡ suc m → inner t ≡ types.StringMap
     → value_at owned_reader levels t s ≡ as_value texts (many_at most_items text_pair_at s)
 unfolding plain_at
 texts_by levels m t s more is = value_by levels m t types.StringMap s more is
 
+-- it is its pairs
 pub texts_read :
     (bytes : List ℕ) (n : ℕ) (rest : List ℕ) → count_at most_items bytes ≡ Some (n, rest)
     → as_value texts (many_at most_items text_pair_at bytes) ≡ as_value texts (times_at text_pair_at n rest)
@@ -458,7 +459,8 @@ pub not_closed :
     {S E A : Type 0} {grows : Growth S E} (f : List A → Value) {inside : List A → List ℕ} {opening closing : List ℕ}
     (o : Option (List A × List ℕ)) (rest : Bor (List ℕ)) {s m n : S} (t : S) (e : E)
     → InBrackets f inside opening closing → Joins grows → grows s opening (Ok tt) m
-    → PutsRead grows inside o m n (Ok rest) → grows n closing (Err e) t → PutsRead grows value_text (as_value f o) s t (Err e)
+    → PutsRead grows inside o m n (Ok rest) → grows n closing (Err e) t
+    → PutsRead grows value_text (as_value f o) s t (Err e)
 not_closed {grows = grows} f {inside} {opening} {closing} o rest {s} {m} {n} t e in_brackets joins first held last =
     puts_not (as_value f o) e (λ x is.
     let (xs, read, same) = as_value_some f o x.0 x.1 is in

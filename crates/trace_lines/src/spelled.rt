@@ -137,8 +137,8 @@ fn push_value_at<'a, L: GrowingLine>(
 
 // The same of a map of texts.
 fn push_texts_at<'a, L: GrowingLine>(out: &mut L, bytes: &'a [u8]) -> Result<&'a [u8], L::Fault>
-    ensures { PutsRead L.grows value_text (as_value texts (many_at most_items text_pair_at bytes.now))
-        out.old out.new result }
+    ensures { PutsRead L.grows value_text
+        (as_value texts (many_at most_items text_pair_at bytes.now)) out.old out.new result }
 {
     let Ok((count, rest)) = count_at(MAX_ITEMS, bytes) else {
         return Err(out.refusal());

@@ -3,7 +3,7 @@ use Rattle.trace_values.specs.FieldTypes.{inner}
 use Rattle.trace_values.specs.Reading.{item_at, pair_at, value_at}
 use Rattle.trace_values.specs.Values.{owned_reader}
 use Rattle.trace_lines.specs.Lines.{value_text}
-use Rattle.trace_lines.specs.parts.SpelledLines.{PutsRead, pair_value_text}
+use Rattle.trace_lines.specs.parts.SpelledLines.{pair_value_text}
 use Rattle.trace_lines.proofs.SpelledParts.{closed, equals_not_put, inner_inner, item_by, items_begin, items_end}
 use Rattle.trace_lines.proofs.SpelledParts.{items_go_on, items_stop, items_stop_first, key_not_put, list_read}
 use Rattle.trace_lines.proofs.SpelledParts.{list_shown, map_read, map_shown, not_closed, not_filled, not_opened}
