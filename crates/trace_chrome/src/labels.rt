@@ -157,7 +157,7 @@ fn capped(number: u64, unit: u64) -> u64
 
 /// When an event ends that begins at a time, by what it is: a slice after its length, at the greatest time at most.
 pub(crate) fn end_by(at: u64, what: What<'_>) -> u64
-    ensures { result ≡ end_by at (what_view what) }
+    ensures { result ≡ end_by at (what_view what.entry) }
 {
     match what {
         What::Takes(length) => later_by(at, length),
