@@ -18,12 +18,11 @@ use clap::error::ErrorKind;
 use gotymbe_plan::moments::{moment_given, push_no_moment};
 use gotymbe_words::asked::{Asked, status_by, task_of, what_is_asked};
 use gotymbe_words::command::command;
-use std::env;
 use std::fs::File;
-use std::io;
 use std::io::IsTerminal;
 use std::process::ExitCode;
 use std::rt::{Clock, Env, Files};
+use std::{env, io};
 use trace_lines::dump::FAILED;
 
 fn main(rt: HostRuntime) -> ExitCode {
