@@ -11,5 +11,4 @@ mod roles;
 mod segments;
 mod statistics;
 mod tables;
-mod texts;
 mod wide;
