@@ -25,6 +25,14 @@ struct Gathered<'n> {
     zero: Option<i64>,
 }
 
+impl Gathered<'_> {
+    // Ends a file, whose clock has the zero that it said, if it said one.
+    fn end_file(&mut self) -> Result<(), AllocError> {
+        let zero = self.zero;
+        self.data.end_file(zero)
+    }
+}
+
 impl FrameSink for Gathered<'_> {
     fn begin(&mut self, _: u8) -> Result<(), Ending> {
         Ok(())
@@ -72,14 +80,15 @@ pub(crate) fn write_page<W: TraceWrite + Drop>(
     let mut ends = String::new(rt.alloc());
     let mut status = WHOLE;
     for name in call.asked.files.as_slice() {
-        gathered.zero = zero_of(rt, call, name);
-        gathered.picked = Picked::of(call, gathered.zero);
+        let zero = zero_of(rt, call, name);
+        gathered.zero = zero;
+        gathered.picked = Picked::of(call, zero);
         let ending = read_named(rt, call, name, &mut gathered);
         status = status.max(tell(rt, name, ending)?);
         if ending == Ending::OutOfMemory {
             return Ok(status);
         }
-        gathered.data.end_file(gathered.zero)?;
+        gathered.end_file()?;
         push_end(&mut ends, name, ending)?;
     }
     let title = title_of(call.asked.title, &call.asked.files);
