@@ -1,5 +1,5 @@
 -- A text that is appended in parts, to a line of any kind, by its laws.
-use Rattle.std.proofs.Common.{◌≡◌, ℕ, List, [], ◌++◌, Result, Ok, Err, refl, sym, subst}
+use Rattle.std.proofs.Common.{◌≡◌, ℕ, List, [], ◌++◌, Result, Ok, Err, sym, subst}
 
 -- what an answer says of a text that was to be appended
 abbrev pub Growth : Type 0 → Type 0 → Type 1
@@ -7,13 +7,16 @@ Growth S E = S → List ℕ → Result (Unit {0}) E → S → Type 0
 
 -- ---- the laws
 
+-- no text is appended by doing nothing
 abbrev pub Empty : {S E : Type 0} → Growth S E → Type 0
 Empty {S} grows = (s : S) → grows s [] (Ok tt) s
 
+-- a text is appended after another
 abbrev pub Joins : {S E : Type 0} → Growth S E → Type 0
 Joins {S} {E} grows = (s m t : S) (a b : List ℕ) (r : Result (Unit {0}) E) → grows s a (Ok tt) m → grows m b r t
     → grows s (a ++ b) r t
 
+-- where a text was not appended, no longer one was
 abbrev pub Stops : {S E : Type 0} → Growth S E → Type 0
 Stops {S} {E} grows = (s t : S) (a b : List ℕ) (e : E) → grows s a (Err e) t → grows s (a ++ b) (Err e) t
 

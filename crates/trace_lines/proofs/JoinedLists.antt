@@ -58,7 +58,7 @@ comma_after : (i : ℕ) → comma_before (suc i) ≡ codes ","
 comma_after i = search rules
 
 -- after the first each has a comma
-left_later :
+pub left_later :
     {A : Type 0} (shown : A → List ℕ) (i : ℕ) (xs : List A) →
     joined_left shown (suc i) xs ≡ flat_map (λ y. codes "," ++ shown y) xs
 left_later shown i [] = refl

@@ -21,3 +21,5 @@ mod FrameLines
 mod PlainRuns
 mod GrowingParts
 mod SentParts
+mod SpelledParts
+mod PiecesHeld

@@ -1,6 +1,6 @@
 -- The fields of an event as they are appended one after another, each under its name.
 use Rattle.std.proofs.Common.{◌≡◌, ℕ, ◌+◌, ◌<◌, ◌≤◌, List, [], ◌∷◌, ◌++◌, length, drop, get_or, map as list_map, sym}
-use Rattle.std.proofs.Common.{ap, ap₂, refl, ◌∙◌, append_assoc, append-nil, arith}
+use Rattle.std.proofs.Common.{ap, ap₂, refl, ◌∙◌, arith}
 use Rattle.std.specs.List.{flat_map}
 use Rattle.std.proofs.lemmas.List.{drop_more, drop_all}
 use Rattle.trace_values.specs.Values.{Value}

@@ -30,7 +30,7 @@ use Rattle.trace_lines.proofs.PieceLines.{first_comes, no_header_ends, stuck_end
 -- ---- a decoder that knows the version
 
 -- it keeps bytes then
-fed_on :
+pub fed_on :
     (s : FeedState) (v : ℕ) (d : DecoderState) (frames : List Frame) → IsFed s → s.version ≡ Some v →
     Goes owned_reader (reader_of s) d frames → IsFed (standing_at s d)
 fed_on s v d frames f e g = record {
@@ -46,11 +46,13 @@ fed_on s v d frames f e g = record {
   begins = λ none. absurd (let x : Some v ≡ None = sym e ∙ none in cc);
 }
 
-as_one : (frames : List Frame) (shown : Item) → items frames ≡ shown ∷ []
+-- the line of the one item of frames
+pub as_one : (frames : List Frame) (shown : Item) → items frames ≡ shown ∷ []
     → item_lines (items frames) ≡ line (item_line shown)
 as_one frames shown e = ap item_lines e ∙ append-nil (line (item_line shown))
 
-known_frame :
+-- the line of a frame comes
+pub known_frame :
     (s new : FeedState) (v : ℕ) (shown : Item) → IsFed s → s.version ≡ Some v → PullsFrame s new (Ok (Some shown)) →
     LinesCome s [] new (line (item_line shown)) × IsFed new × (length new.kept < length s.kept)
 known_frame s new v shown f e (d, next, is) =

@@ -8,3 +8,5 @@ pub mod EventLines
 pub mod TextLaws
 pub mod SentLines
 pub mod LineLaws
+pub mod SpelledLines
+pub mod SentPieces

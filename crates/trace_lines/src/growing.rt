@@ -38,6 +38,10 @@ pub(crate) trait GrowingLine {
     fn refuse(&mut self) -> Result<(), Self::Fault>
         ensures { (text : List ℕ) → grows self.old text result self.new };
 
+    /// Why it does not grow where a growth was refused elsewhere.
+    fn refusal(&self) -> Self::Fault
+        ensures { (text : List ℕ) → grows self.now text (Err result) self.now };
+
     /// No text is appended by doing nothing.
     ghost empty: { (s : Self) → grows s [] (Ok tt) s };
 
@@ -74,6 +78,10 @@ impl GrowingLine for String {
 
     fn refuse(&mut self) -> Result<(), AllocError> {
         Err(AllocError)
+    }
+
+    fn refusal(&self) -> AllocError {
+        AllocError
     }
 }
 

@@ -12,6 +12,7 @@ mod pooled;
 pub mod program;
 pub mod resolved;
 mod sent_lines;
+mod spelled;
 pub mod text;
 mod text_maps;
 pub mod value;

@@ -1,26 +1,34 @@
 //! A dump of an input that is read in pieces.
 
-ghost use Rattle.std.specs.Prelude.{◌≡◌, ◌≢◌, ◌≤◌, [], false, IfOk, OnOk, string_bytes};
+ghost use Rattle.std.specs.Prelude.{◌≡◌, ◌≢◌, ◌≤◌, [], false, IfOk, IfSome, OnOk, string_bytes};
 ghost use Rattle.trace_values.specs.Sending.{IsSettled};
 ghost use Rattle.trace_lines.specs.Dumps.{failed_status};
 ghost use Rattle.trace_lines.specs.PieceDumps.{DumpsFrontOfBytes, DumpsFrontOfRead, DumpsRead};
-ghost use Rattle.trace_lines.specs.parts.PieceDumps.{IsFed, IsWaiting, AreNextLines, GathersPiece, IsLeft};
+ghost use Rattle.trace_lines.specs.parts.PieceDumps.{IsFed, IsWaiting, AreNextLines, IsLeft};
 ghost use Rattle.trace_lines.specs.parts.PieceDumps.{AppendsEnd, AppendsFirst, PulledLines, SendsPiece, SendsRead};
 ghost use Rattle.trace_lines.specs.parts.PieceDumps.{StuckLines};
+ghost use Rattle.trace_lines.specs.parts.SentPieces.{GathersSent, HoldsNext, PutsEvent, PutsNext};
+ghost use Rattle.dial9_trace_format.specs.WholeEvents.{IsWholeEvent};
 ghost use Rattle.dial9_trace_format.specs.DecodedFrames.{item_of, next_as};
 ghost use Rattle.dial9_trace_format.specs.Feeding.{new_feed};
 ghost use Rattle.trace_lines.specs.parts.Sent.{Sends};
 ghost use Rattle.trace_lines.specs.Program.{DumpsAll};
 
 use crate::dump::{CONFLICT, DumpError, FAILED, NO_HEADER, STOPPED, WHOLE};
+use crate::growing::GrowingLine;
 use crate::lines::{
     push_conflict_line, push_first_line, push_frame_line, push_no_header_line, push_stopped_line,
     push_whole_line,
 };
-use dial9_trace_format::decoder::{DecodeError, DecodeErrorKind, DecodedFrame, FeedDecoder};
+use crate::sent_lines::{ENOUGH, LineFault, Lines};
+use crate::spelled::push_spelled_line;
+use dial9_trace_format::decoder::{
+    DecodeError, DecodeErrorKind, DecodedFrame, FeedDecoder, WholeEvent,
+};
 use std::alloc::{AllocError, Global};
 use std::io::{ErrorKind, Read};
 use trace_values::leb128::{TraceWrite, send_all};
+use trace_values::tri;
 
 // So many bytes at most are read at once.
 const PIECE: usize = 4096;
@@ -168,51 +176,146 @@ fn send_piece<W: TraceWrite>(
     ensures { SendsPiece (W.told out.old) (W.told out.new) decoder.old.state piece.now
         decoder.new.state result }
 {
-    let mut held = String::new(alloc);
-    let gathered = gather_piece(alloc, decoder, piece, &mut held);
-    send_all(out, held.as_bytes())?;
-    Ok(gathered?)
+    let (line, held) = (String::new(alloc), String::new(alloc));
+    let mut lines = Lines { line, held, out };
+    let sent = send_gathered(alloc, decoder, piece, &mut lines);
+    // (taken apart, so that the writer is known to be the one that was given)
+    let Lines { line, held, out } = lines;
+    sent
 }
 
-// Appends the lines of all frames that are whole with the piece. Answers the status where they are the last.
-fn gather_piece(
+// The same by lines that hold nothing.
+fn send_gathered<W: TraceWrite>(
     alloc: Global,
     decoder: &mut FeedDecoder,
     piece: &[u8],
-    held: &mut String,
-) -> Result<Option<u8>, AllocError>
+    lines: &mut Lines<'_, W>,
+) -> Result<Option<u8>, DumpError>
     requires waiting { IsWaiting decoder.old.state }
-    requires empty { string_bytes held.old ≡ [] }
-    ensures { GathersPiece decoder.old.state piece.now decoder.new.state (string_bytes held.new)
+    requires empty { string_bytes lines.old.held ≡ [] }
+    ensures same_writer { lines.new.out.ghost_name ≡ lines.old.out.ghost_name }
+    ensures sends { SendsPiece (W.told lines.old.out.now) (W.told lines.new.out.now)
+        decoder.old.state piece.now decoder.new.state result }
+{
+    match gather_piece(alloc, decoder, piece, lines) {
+        Ok(end) => {
+            send_all(lines.out, lines.held.as_bytes())?;
+            Ok(end)
+        }
+        Err(LineFault::OutOfMemory) => {
+            send_all(lines.out, lines.held.as_bytes())?;
+            Err(DumpError)
+        }
+        Err(LineFault::Unsent) => Err(DumpError),
+    }
+}
+
+// Holds the lines of all frames that are whole with the piece, and sends a front of them where there is much. Answers
+// the status where they are the last.
+fn gather_piece<W: TraceWrite>(
+    alloc: Global,
+    decoder: &mut FeedDecoder,
+    piece: &[u8],
+    lines: &mut Lines<'_, W>,
+) -> Result<Option<u8>, LineFault>
+    requires { IsWaiting decoder.old.state }
+    ensures { GathersSent W.told lines.old lines.new decoder.old.state piece.now decoder.new.state
         result }
 {
     let Ok(()) = decoder.push(piece) else {
-        return Err(AllocError);
+        return Err(LineFault::OutOfMemory);
     };
-    gather_kept(alloc, decoder, held)
+    gather_kept(alloc, decoder, lines)
 }
 
-// Appends the lines of all frames that are whole. Answers the status where they are the last.
-fn gather_kept(
+// Holds the lines of all frames that are whole, and sends a front of them where there is much. Answers the status where
+// they are the last.
+fn gather_kept<W: TraceWrite>(
     alloc: Global,
     decoder: &mut FeedDecoder,
-    held: &mut String,
-) -> Result<Option<u8>, AllocError>
-    requires fed { IsFed decoder.old.state }
-    requires empty { string_bytes held.old ≡ [] }
-    ensures { GathersPiece decoder.old.state [] decoder.new.state (string_bytes held.new) result }
+    lines: &mut Lines<'_, W>,
+) -> Result<Option<u8>, LineFault>
+    requires { IsFed decoder.old.state }
+    ensures { GathersSent W.told lines.old lines.new decoder.old.state [] decoder.new.state result }
 {
-    let mut line = String::new(alloc);
     'lines: loop {
-        line.clear();
-        let next = push_next_lines(&mut line, decoder)?;
-        held.push_str(&line)?;
-        match next {
+        match tri!(hold_next(alloc, decoder, lines)) {
             Next::Line => {}
             Next::Wait => return Ok(None),
             Next::End(status) => return Ok(Some(status)),
         }
     }
+}
+
+// Holds the line of the next frame, if one is whole, and before it the first line, where the header was read with it;
+// or the last line.
+fn hold_next<W: TraceWrite>(
+    alloc: Global,
+    decoder: &mut FeedDecoder,
+    lines: &mut Lines<'_, W>,
+) -> Result<Next, LineFault>
+    requires { IsFed decoder.old.state }
+    ensures { HoldsNext W.told lines.old lines.new decoder.old.state decoder.new.state result }
+{
+    lines.line.clear();
+    let next = tri!(put_next(alloc, decoder, lines));
+    match lines.held.push_str(&lines.line) {
+        Ok(()) => Ok(next),
+        Err(_) => Err(LineFault::OutOfMemory),
+    }
+}
+
+// The same in the line, which is empty.
+fn put_next<W: TraceWrite>(
+    alloc: Global,
+    decoder: &mut FeedDecoder,
+    lines: &mut Lines<'_, W>,
+) -> Result<Next, LineFault>
+    requires fed { IsFed decoder.old.state }
+    requires empty { string_bytes lines.old.line ≡ [] }
+    ensures { PutsNext W.told lines.old lines.new decoder.old.state decoder.new.state result }
+{
+    match large_event(decoder) {
+        Some(event) => put_event(alloc, decoder, event, lines),
+        None => match push_next_lines(&mut lines.line, decoder) {
+            Ok(next) => Ok(next),
+            Err(_) => Err(LineFault::OutOfMemory),
+        },
+    }
+}
+
+// The event that stands whole at the front, if much is kept. (Any answer is right: of a small event the values take
+// little, and are read sooner all at once.)
+fn large_event(decoder: &mut FeedDecoder) -> Option<WholeEvent>
+    ensures same { decoder.new ≡ decoder.old }
+    ensures whole { IfSome result (IsWholeEvent decoder.old.state) }
+{
+    if decoder.fed_len().saturating_sub(decoder.position()) < ENOUGH {
+        return None;
+    }
+    decoder.whole_event()
+}
+
+// Appends the line of the event that stands whole at the front, and goes on after it.
+fn put_event<L: GrowingLine>(
+    alloc: Global,
+    decoder: &mut FeedDecoder,
+    event: WholeEvent,
+    line: &mut L,
+) -> Result<Next, L::Fault>
+    requires { IsWholeEvent decoder.old.state event }
+    ensures { (whole : IsWholeEvent decoder.old.state event)
+        → PutsEvent L.grows event whole.at.values line.old line.new decoder.old.state
+        decoder.new.state result }
+{
+    let Some(schema) = decoder.registry().get(event.type_id) else {
+        return Err(line.refusal());
+    };
+    let bytes = decoder.event_values(event);
+    let (id, time) = (event.type_id, event.timestamp_ns);
+    tri!(push_spelled_line(alloc, line, id, time, schema.fields(), bytes));
+    decoder.pass_event(event);
+    Ok(Next::Line)
 }
 
 // Appends the line of the next frame, if one is whole, and before it the first line, where the header was read with

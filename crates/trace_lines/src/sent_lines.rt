@@ -72,6 +72,10 @@ impl<'w, W: TraceWrite> GrowingLine for Lines<'w, W> {
     fn refuse(&mut self) -> Result<(), LineFault> {
         Err(LineFault::OutOfMemory)
     }
+
+    fn refusal(&self) -> LineFault {
+        LineFault::OutOfMemory
+    }
 }
 
 impl<'w, W: TraceWrite> Lines<'w, W> {

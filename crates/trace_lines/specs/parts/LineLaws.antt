@@ -1,7 +1,7 @@
 -- For private contracts: the laws of a line that is sent as it grows.
 use Rattle.std.specs.Prelude.{◌≡◌, ℕ, List, [], ◌++◌, Result, Ok, Err, string_bytes}
 use Rattle.std.proofs.Common.{refl, sym, ap, ◌∙◌, append-nil, append_assoc}
-use Rattle.trace_values.specs.Sending.{Account, TookOnly}
+use Rattle.trace_values.specs.Sending.{Account}
 use Rattle.trace_values.proofs.SendingLemmas.{TookOnly-none, TookOnly-join}
 use Rattle.trace_lines.specs.parts.SentLines.{Leaves, GoThrough, LineGrows, unsent}
 use Rattle.trace_lines.specs.declared.sent_lines.Lines.{Lines}

@@ -1,9 +1,10 @@
-use Rattle.std.proofs.Common.{length, string_bytes}
-use Rattle.trace_lines.proofs.PiecesGathered.{Gathered}
+use Rattle.std.proofs.Common.{length}
+use Rattle.trace_lines.proofs.PiecesHeld.{HeldSoFar}
 use Rattle.trace_lines.proofs.pieces.gather_kept.Given as goal
 
 abbrev pub invariant-lines : goal.invariant-lines
-invariant-lines l = record { gathered : Gathered l.initial.decoder.state l.decoder.state (string_bytes l.held) }
+invariant-lines g l =
+    HeldSoFar g.W.TraceWrite.told l.initial.lines l.lines l.initial.decoder.state l.decoder.state
 
 abbrev pub decreases-lines : goal.decreases-lines
-decreases-lines l = length l.decoder.state.kept
+decreases-lines g l = length l.decoder.state.kept

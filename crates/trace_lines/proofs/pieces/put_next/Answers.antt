@@ -1,0 +1,13 @@
+use Rattle.trace_lines.proofs.PiecesHeld.{event_put_then, lines_refused}
+use Rattle.trace_lines.proofs.pieces.put_next.Goals as goal
+
+pub returns-in-Some : goal.returns-in-Some
+returns-in-Some g c =
+    event_put_then g.W.TraceWrite.told c.args.lines.now c.put_event.new.line {old = c.args.decoder.now}
+    c.put_event.new.decoder.state c.in-Some.event c.put_event.result c.large_event.ensures.same c.in-Some.ensures.whole
+    c.requires.fed c.put_event.ensures
+
+pub returns-in-Err : goal.returns-in-Err
+returns-in-Err g c =
+    lines_refused g.W.TraceWrite.told c.args.lines.now c.push_next_lines.new.line c.args.decoder.now.state
+    c.push_next_lines.new.decoder.state c.requires.fed
