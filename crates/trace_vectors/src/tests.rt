@@ -15,6 +15,7 @@ mod layouts;
 mod lent;
 mod mixed;
 mod next_events;
+mod order;
 mod pieces;
 mod plain;
 mod pulled_events;

@@ -47,7 +47,7 @@ fn failing_once(before: usize, fault: ErrorKind) -> FailsOnce<'static> {
 
 /// So much of the lines of one event is told of so many of its bytes: the first line by the header, that of the schema
 /// and that of the event by their last bytes (docs/FORMAT.md, "Dumps", "An example").
-fn lines_by(bytes: usize) -> &'static str {
+pub fn lines_by(bytes: usize) -> &'static str {
     let length = match bytes {
         0..=4 => 0,
         5..=18 => 16,
