@@ -41,7 +41,9 @@ const FIRST: &str =
                      event 256 0 None Varint:7 List:[";
 
 const TEXTS: &str =
-    "I64:-2,F64:0x3ff8000000000000,Bool:true,String:\"x\",Bytes:\"y\",PooledStackFrames:stack#3,PooledString:pool#4,StackFrames:[0x1000],Varint:42,StringMap:{\"k\"=\"v\"},Varint:5,Varint:6,Varint:7,List:[Bool:false],Map:{Bool:true=Bool:false}";
+    "I64:-2,F64:0x3ff8000000000000,Bool:true,String:\"x\",Bytes:\"y\",PooledStackFrames:stack#3,\
+                     PooledString:pool#4,StackFrames:[0x1000],Varint:42,StringMap:{\"k\"=\"v\"},\
+                     Varint:5,Varint:6,Varint:7,List:[Bool:false],Map:{Bool:true=Bool:false}";
 
 /// The trace of that event.
 fn trace(alloc: Global) -> Result<Vec<u8>, AllocError> {
