@@ -41,6 +41,14 @@ def unquoted(token):
     return word
 
 
+def length_of(number, unit):
+    """So many of a unit in whole nanoseconds, half of one rounded up; 0 of what is no finite number above 0."""
+    if not 0 < number < float("inf"):
+        return 0
+    product = min(number * unit, 2**64)
+    return int(product) + (product - int(product) >= 0.5)
+
+
 class Event:
     """An event of some data, by the rules of viewer/DATA.md."""
 
@@ -126,21 +134,24 @@ class Model:
     def pair(self):
         opened = {}
         for event in self.events:
-            key = event.track(), event.group
             if event.shape() == "slice":
                 _, kind, field, value = event.role("duration")
                 number = float(value) if is_number(kind) and isinstance(value, (int, float, str)) else 0
-                length = number * (SCALES[field["unit"]] if field["unit"] in TIMES else 1)
-                event.length = min(length, 2**64) if 0 < length < float("inf") else 0
+                event.length = length_of(number, SCALES[field["unit"]] if field["unit"] in TIMES else 1)
             elif event.shape() == "begin":
-                opened.setdefault(key, []).append(event)
-            elif event.shape() == "end" and opened.get(key):
-                begin = opened[key].pop()
-                event.partner, begin.partner = begin, event
-                begin.length = max(0, event.place - begin.place)
-        most = max([0, *(event.end() for event in self.events)])
+                opened.setdefault(event.track(), []).append(event)
+            elif event.shape() == "end":
+                own = opened.get(event.track(), [])
+                at = max((at for at, begin in enumerate(own) if begin.group == event.group), default=len(own))
+                for begin in own[at:]:
+                    begin.length, begin.is_open = max(0, event.place - begin.place), begin is not own[at]
+                if at < len(own):
+                    event.partner, own[at].partner = own[at], event
+                del own[at:]
+        # (no time is greater than 2^64 - 1)
+        last = min(max([0, *(event.end() for event in self.events)]), 2**64 - float(self.data["start"]))
         for event in (event for events in opened.values() for event in events):
-            event.length, event.is_open = max(0, most - event.place), True
+            event.length, event.is_open = max(0, last - event.place), True
 
     def lanes(self):
         """The sort, the track and the size of each row of the timeline that has no counter."""

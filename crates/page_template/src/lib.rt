@@ -7,7 +7,7 @@ pub const HEAD: &str = "<!doctype html>
 <head>
 <meta charset=\"utf-8\">
 <meta http-equiv=\"Content-Security-Policy\" content=\"default-src 'none';
-  script-src 'sha256-K6+BVZHI27Np0Rl5ykUZntbtfy+6ZnSQToVLsP2QdQ4=';
+  script-src 'sha256-5eCSTz1kSJTiX09LEnrJX0AGiwnh+I1IgBFAdsYtxO0=';
   style-src 'sha256-7Ce6TegYy3iLcNdVChw1ebDIc3OwkziIPAnwY40L0Lc=';
   img-src data:;
   base-uri 'none';
@@ -578,7 +578,7 @@ function findTracks() {
   const find = (sort, key, name) => {
     let track = known[sort].get(key);
     if (track === undefined) {
-      track = { name: name(), sort: SORTS.indexOf(sort), key, at: tracks.length, open: new Map() };
+      track = { name: name(), sort: SORTS.indexOf(sort), key, at: tracks.length, open: [], groups: new Map() };
       if (sort === \"text\") track.order = track.name.replace(/[0-9]+/g, (digits) => digits.padStart(20, \"0\"));
       known[sort].set(key, track);
       tracks.push(track);
@@ -608,7 +608,15 @@ function findTracks() {
 // (numbers in texts stand by their size)
 const textOrder = (a, b) => (a.order < b.order ? -1 : a.order > b.order ? 1 : 0);
 
-// Gives each slice its length in nanoseconds (NONE where an event is no slice), and begins and ends each other.
+// How long a slice is by the value of its field, in whole nanoseconds.
+function lengthBy(field, value) {
+  const number = isNumber(field.kind) ? numberOf(value) : NaN;
+  if (!(number > 0 && number < Infinity)) return 0;
+  return Math.min(Math.round(number * (TIMES[field.unit] ?? 1)), MOST_LENGTH);
+}
+
+// Gives each slice its length in nanoseconds (NONE where an event is no slice), and begins and ends each other. `open`
+// are the slices of a track that are open, and `groups` how many of each group. An end also ends those inside its own.
 function pairEvents() {
   trace.length = new Float64Array(trace.count).fill(NONE);
   trace.partner = new Int32Array(trace.count).fill(NONE);
@@ -616,25 +624,30 @@ function pairEvents() {
     const schema = schemaOf(event);
     const shape = shapeOf(event);
     const time = trace.time[event];
+    const { open, groups } = trace.tracks[trace.trackOf[event]];
     if (shape === SLICE) {
       const field = schema.fields[schema.roles.duration];
-      const length = numberOf(valueOf(event, field)) * (TIMES[field.unit] ?? 1);
-      trace.length[event] = isNumber(field.kind) && length > 0 && length < Infinity ? Math.min(length, MOST_LENGTH) : 0;
+      trace.length[event] = lengthBy(field, valueOf(event, field));
     } else if (shape === BEGIN) {
-      const open = trace.tracks[trace.trackOf[event]].open;
-      if (!open.has(schema.group)) open.set(schema.group, []);
-      open.get(schema.group).push(event);
-    } else if (shape === END) {
-      const begin = trace.tracks[trace.trackOf[event]].open.get(schema.group)?.pop() ?? NONE;
-      if (begin === NONE) continue;
+      open.push(event);
+      groups.set(schema.group, (groups.get(schema.group) ?? 0) + 1);
+    } else if (shape === END && groups.get(schema.group) > 0) {
+      let begin = NONE;
+      do {
+        begin = open.pop();
+        const { group } = schemaOf(begin);
+        groups.set(group, groups.get(group) - 1);
+        trace.length[begin] = Math.max(0, time - trace.time[begin]);
+      } while (schemaOf(begin).group !== schema.group);
       trace.partner[event] = begin;
       trace.partner[begin] = event;
-      trace.length[begin] = Math.max(0, time - trace.time[begin]);
     }
     trace.most = Math.max(trace.most, time + Math.max(0, trace.length[event]));
   }
-  const left = trace.tracks.flatMap((track) => [...track.open.values()].flat());
-  for (const begin of left) trace.length[begin] = Math.max(0, trace.most - trace.time[begin]);
+  // (no time is greater than 2^64 - 1)
+  const last = Math.min(trace.most, MOST_LENGTH - Number(trace.start));
+  for (const { open } of trace.tracks)
+    for (const begin of open) trace.length[begin] = Math.max(0, last - trace.time[begin]);
 }
 
 const isOpen = (event) => shapeOf(event) === BEGIN && trace.partner[event] === NONE;

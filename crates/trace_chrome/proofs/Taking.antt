@@ -7,7 +7,7 @@ use Rattle.dial9_trace_format.specs.ShownEvents.{ShownEvent}
 use Rattle.trace_json.specs.EventJson.{IsEventJson}
 use Rattle.trace_json.specs.Lines.{IsLineOf, line_feed}
 use Rattle.trace_chrome.specs.Counters.{sums_of}
-use Rattle.trace_chrome.specs.Labels.{what_of, track_name, event_name}
+use Rattle.trace_chrome.specs.Labels.{what_of, track_name, event_name, end_time}
 use Rattle.trace_chrome.specs.Slices.{What, begins, takes}
 use Rattle.trace_chrome.specs.Tracks.{Track, with_track, track_at}
 use Rattle.trace_chrome.specs.Entries.{Entry, entry_text, entries_text}
@@ -38,7 +38,7 @@ pub record Known (e : ShownEvent) (old new : ChromeTrace) (told : entries.Told) 
   pub frame : told.frame ≡ frame_of e old.frames.all.keys
   pub frames : new.frames.all.keys ≡ frames_after e old.frames.all.keys
   pub start : new.start ≡ Some (first_by old.start e.time)
-  pub last : new.last ≡ max old.last e.time
+  pub last : new.last ≡ max old.last (end_time e)
 
 -- its own entries were appended, and the tracks are what they are after it
 pub record Own

@@ -1,20 +1,20 @@
 -- The text of a trace is sent whole.
 use Rattle.std.proofs.Common.{◌≡◌, ℕ, List, [], ◌∷◌, ◌++◌, Option, Some, None, map}
 use Rattle.std.proofs.Common.{refl, sym, ap, subst, ◌∙◌, append_assoc, append-nil}
-use Rattle.std.specs.List.{AllByRecursion}
 use Rattle.std.proofs.lemmas.Grind.{flat_map-append}
 use Rattle.dial9_trace_format.specs.ShownEvents.{ShownEvent}
 use Rattle.trace_values.specs.Sending.{Account, TookOnly}
 use Rattle.trace_values.proofs.SendingLemmas.{TookOnly-join, TookOnly-none}
+use Rattle.trace_chrome.specs.Counters.{Sum, sums_of}
 use Rattle.trace_chrome.specs.Entries.{Told, Entry, entry_text, entries_text, head_text, tail_text}
 use Rattle.trace_chrome.specs.Frames.{Frame}
 use Rattle.trace_chrome.specs.Laws.{TakenEvent, entries_over, tracks_over}
 use Rattle.trace_chrome.specs.Slices.{closings}
-use Rattle.trace_chrome.specs.Steps.{first_by, frame_of, track_number, entries_of, tracks_after}
+use Rattle.trace_chrome.specs.Steps.{first_by, frame_of, frames_after, track_number, entries_of, tracks_after}
 use Rattle.trace_chrome.specs.Tracks.{Track}
 use Rattle.trace_chrome.specs.Sending.{SendsEvent, SendsHeld}
 use Rattle.trace_chrome.specs.Sending.{ending_text, SendsAll, events_taken, first_time}
-use Rattle.trace_chrome.specs.Sending.{last_time, frames_over, IsTaken, TextIsSent}
+use Rattle.trace_chrome.specs.Sending.{last_time, frames_over, AreTaken, TextIsSent}
 use Rattle.trace_chrome.specs.declared.trace.ChromeTrace.{ChromeTrace}
 use Rattle.trace_chrome.specs.declared.sending.ChromeText.{ChromeText}
 
@@ -32,11 +32,15 @@ from_of t xs = first_by t.start (first_time (events xs))
 abbrev text_over : ChromeTrace → List TakenEvent → List ℕ
 text_over t xs = entries_text (from_of t xs) (entries_over xs t.tracks.items)
 
+-- events were taken after a trace
+abbrev AreTakenAfter : ChromeTrace → List TakenEvent → Type 0
+AreTakenAfter t xs = AreTaken xs t.tracks.items t.frames.all.keys t.sums.items
+
 -- what came of steps
 record Came (steps : List (Option ShownEvent)) (a c : ChromeText) (x y : Account) : Type 0 where
   taken : List TakenEvent
   are : events taken ≡ events_taken steps
-  told : AllByRecursion IsTaken taken
+  told : AreTakenAfter a.trace taken
   sent : List ℕ
   took : TookOnly x y sent []
   bytes : a.held.items ++ text_over a.trace taken ≡ sent ++ c.held.items
@@ -71,7 +75,7 @@ held_came steps a b c x y z s i =
     record {
       taken = i.taken;
       are = i.are;
-      told = i.told;
+      told = subst (λ (t : ChromeTrace). AreTakenAfter t i.taken) s.trace i.told;
       sent = held ++ i.sent;
       took = TookOnly-join x y z held i.sent [] [] s.took i.took;
       bytes = ap (λ (l : List ℕ). held ++ l) later ∙ sym (append_assoc held i.sent c.held.items);
@@ -93,6 +97,15 @@ regrouped from es fs held sent kept more last first later =
     ∙ ap (λ (l : List ℕ). l ++ rest) first ∙ append_assoc sent kept rest
     ∙ ap (λ (l : List ℕ). sent ++ l) later ∙ sym (append_assoc sent more last)
 
+-- events were taken after the same tracks, frames and sums
+after_moves :
+    (xs : List TakenEvent) {ts ts' : List Track} {fs fs' : List Frame} {sums sums' : List Sum} → ts ≡ ts' → fs ≡ fs' →
+    sums ≡ sums' → AreTaken xs ts fs sums → AreTaken xs ts' fs' sums'
+after_moves xs {ts} {ts'} {fs} {fs'} {sums} {sums'} same_tracks same_frames same_sums told =
+    subst (λ (l : List Track). AreTaken xs l fs' sums') same_tracks
+    (subst (λ (l : List Frame). AreTaken xs ts l sums') same_frames
+    (subst (λ (l : List Sum). AreTaken xs ts fs l) same_sums told))
+
 -- an event was taken, and steps came after it
 event_came :
     (e : ShownEvent) (steps : List (Option ShownEvent)) (a b c : ChromeText) (x y z : Account) →
@@ -100,13 +113,17 @@ event_came :
 event_came e steps a b c x y z s i =
     let t = s.takes in
     let ts = a.trace.tracks.items in
+    let fs = a.trace.frames.all.keys in
+    let sums = a.trace.sums.items in
     let from = first_by a.trace.start e.time in
-    let seen : Told = record { frame = frame_of e a.trace.frames.all.keys; json = t.json } in
+    let seen : Told = record { frame = frame_of e fs; json = t.json } in
     let own = entries_of seen e ts ++ t.counts in
     let es = events i.taken in
     let begun : from_of b.trace i.taken ≡ from =
     ap (λ (o : Option ℕ). first_by o (first_time es)) t.start in
     let more = entries_over i.taken (tracks_after e ts) in
+    let told : AreTaken i.taken (tracks_after e ts) (frames_after e fs) (sums_of e (track_number e ts) sums) =
+    after_moves i.taken t.tracks t.frames t.sums i.told in
     let later : b.held.items ++ entries_text from more ≡ i.sent ++ c.held.items =
     ap (λ (l : List Track). b.held.items ++ entries_text from (entries_over i.taken l)) (sym t.tracks)
     ∙ ap (λ (n : ℕ). b.held.items ++ entries_text n (entries_over i.taken b.trace.tracks.items)) (sym begun)
@@ -114,7 +131,7 @@ event_came e steps a b c x y z s i =
     record {
       taken = record { event = e; told = seen; counts = t.counts } ∷ i.taken;
       are = ap (λ (l : List ShownEvent). e ∷ l) i.are;
-      told = ((t.json_is, (track_number e ts, e.time, a.trace.sums.items, t.counts_are)), i.told);
+      told = (t.json_is, refl, t.counts_are, told);
       sent = s.sends.sent ++ i.sent;
       took = TookOnly-join x y z s.sends.sent i.sent [] [] s.sends.took i.took;
       bytes = regrouped from own more a.held.items s.sends.sent b.held.items i.sent
@@ -183,7 +200,7 @@ text_is_sent name steps a c x y z begins all end =
     record {
       taken = i.taken;
       events = i.are;
-      told = i.told;
+      told = after_moves i.taken new.tracks new.frames new.sums i.told;
       sent = subst (λ (l : List ℕ). TookOnly x z l [])
           (joined from entries (closings (last_time 0 es) (tracks_over i.taken [])) (head_text name)
           (tail_text from (frames_over es [])) i.sent c.held.items (ending_text c.trace) front ends)

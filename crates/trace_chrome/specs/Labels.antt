@@ -1,12 +1,16 @@
 -- What an event is called, where it lies, and what it is.
-use Rattle.std.specs.Prelude.{◌*◌, ◌-◌, ◌^◌, ℕ, ℤ, pos, negsuc, Bool, true, false, List, Option, Some, None}
-use Rattle.std.specs.Prelude.{is_some, not, codes, option_and_then, if◌then◌else◌, nat_lt}
+use Rattle.std.specs.Prelude.{◌+◌, ◌*◌, ◌-◌, ◌^◌, ℕ, ℤ, pos, negsuc, Bool, true, false, List, Option, Some, None}
+use Rattle.std.specs.Prelude.{is_some, not, codes, option_and_then, if◌then◌else◌, nat_lt, from_bits}
 use Rattle.std.specs.FinMap as map
 use Rattle.std.specs.Ordering.{nat_cmp}
+use Rattle.std.specs.Float.{float_is_finite, float_round, float_to_unsigned}
+use Rattle.std.specs.Float.Ieee as Ieee
+use Rattle.std.specs.Float.Ieee.{Float, binary64}
 use Rattle.std.specs.Fmt.{decimal, signed_decimal}
+use Rattle.std.specs.Int.{w64}
 use Rattle.std.specs.List.{slice_get}
 use Rattle.std.specs.Option.{unwrap_or}
-use Rattle.trace_values.specs.Values.{Value, integer, number, text, pooled_text}
+use Rattle.trace_values.specs.Values.{Value, integer, number, float, text, pooled_text}
 use Rattle.trace_wire.specs.Schemas.{Entry}
 use Rattle.dial9_trace_format.specs.ShownEvents.{ShownEvent}
 use Rattle.trace_roles.specs.Roles.{of_schema, note_of, field_with_role, track_of}
@@ -69,17 +73,6 @@ abbrev pub natural_in : ℤ → ℕ
 natural_in (pos n) = n
 natural_in (negsuc n) = 0
 
--- the number from 0 on that a value is, and 0 of any other
-abbrev pub natural_of : Value → ℕ
-natural_of (number n) = n
-natural_of (integer z) = natural_in z
-natural_of v = 0
-
--- that of a field, and 0 where there is none
-abbrev pub natural_by : Option Value → ℕ
-natural_by (Some v) = natural_of v
-natural_by None = 0
-
 -- the unit that a field is annotated with
 abbrev pub unit_of : Entry → ℕ → Option (List ℕ)
 unit_of entry index = note_of entry index (codes "unit")
@@ -93,10 +86,30 @@ unit_by None = 1
 abbrev pub capped : ℕ → ℕ
 capped n = if nat_lt n (2 ^ 64) then n else 2 ^ 64 - 1
 
+-- a float times a number, as floats are multiplied
+abbrev pub times : ℕ → Float → Float
+times n x = Ieee.mul binary64 x (Ieee.of_int binary64 (pos n))
+
+-- so many of a unit, in whole nanoseconds, half of one rounded up; 0 of a float below 0, an infinite one and no number
+abbrev pub float_length : ℕ → Float → ℕ
+float_length unit x =
+    if float_is_finite x then float_to_unsigned w64 (float_round binary64 (times unit x)) else 0
+
+-- so many of a unit, in nanoseconds; 0 of what is no number from 0 on
+abbrev pub length_in : ℕ → Value → ℕ
+length_in unit (number n) = capped (n * unit)
+length_in unit (integer z) = capped (natural_in z * unit)
+length_in unit (float bits) = float_length unit (from_bits binary64 bits)
+length_in unit v = 0
+
+-- those of a field, and 0 where there is none
+abbrev pub length_of : ℕ → Option Value → ℕ
+length_of unit (Some v) = length_in unit v
+length_of unit None = 0
+
 -- how long an event took by a field, in nanoseconds
 abbrev pub length_by : ShownEvent → ℕ → ℕ
-length_by e index =
-    capped (natural_by (value_at e (Some index)) * unit_by (unit_of e.entry index))
+length_by e index = length_of (unit_by (unit_of e.entry index)) (value_at e (Some index))
 
 -- what an event is, by the group that it begins, the one that it ends, and the field of its length
 abbrev pub what_by : ShownEvent → Option (List ℕ) → Option (List ℕ) → Option ℕ → What
@@ -111,3 +124,13 @@ what_of e =
     if lies_nowhere e then happens
     else what_by e (note_of e.entry of_schema (codes "begin")) (note_of e.entry of_schema (codes "end"))
     (field_with_role e.entry (codes "duration"))
+
+-- when an event ends that begins at a time, by what it is: a slice after its length, at the greatest time at most
+abbrev pub end_by : ℕ → What → ℕ
+end_by at (begins group) = at
+end_by at (ends group) = at
+end_by at (takes n) = capped (at + n)
+end_by at happens = at
+
+abbrev pub end_time : ShownEvent → ℕ
+end_time e = end_by e.time (what_of e)

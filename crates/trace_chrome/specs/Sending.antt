@@ -1,16 +1,18 @@
 -- What is sent of a trace, as its events come.
-use Rattle.std.specs.Prelude.{◌≡◌, ℕ, List, [], ◌∷◌, ◌++◌, Option, None, Some, map, max}
-use Rattle.std.specs.List.{AllByRecursion}
+use Rattle.std.specs.Prelude.{◌≡◌, ◌<◌, ⊤, ℕ, List, [], ◌∷◌, ◌++◌, Option, None, Some, length, map, max}
 use Rattle.dial9_trace_format.specs.ShownEvents.{ShownEvent}
 use Rattle.trace_values.specs.Sending.{Account, TookOnly}
 use Rattle.trace_values.specs.Encoding.{SendFails}
 use Rattle.trace_json.specs.EventJson.{IsEventJson}
 use Rattle.trace_json.specs.Lines.{IsLineOf, line_feed}
+use Rattle.trace_chrome.specs.Counters.{Sum, AreCounts, sums_of}
 use Rattle.trace_chrome.specs.Entries.{head_text, entries_text, tail_text}
 use Rattle.trace_chrome.specs.Frames.{Frame}
-use Rattle.trace_chrome.specs.Laws.{TakenEvent, HasCounts, entries_over, tracks_over}
+use Rattle.trace_chrome.specs.Labels.{end_time}
+use Rattle.trace_chrome.specs.Laws.{TakenEvent, entries_over, tracks_over}
 use Rattle.trace_chrome.specs.Slices.{closings}
-use Rattle.trace_chrome.specs.Steps.{Takes, first_by, frames_after}
+use Rattle.trace_chrome.specs.Steps.{Takes, first_by, frame_of, frames_after, track_number, tracks_after}
+use Rattle.trace_chrome.specs.Tracks.{Track}
 use Rattle.trace_chrome.specs.declared.trace.ChromeTrace.{ChromeTrace}
 use Rattle.trace_chrome.specs.declared.sending.ChromeText.{ChromeText}
 use Rattle.trace_chrome.specs.declared.sending.ChromeError.{ChromeError}
@@ -40,6 +42,14 @@ pub record SendsEvent (e : ShownEvent) (old new : ChromeText) (before after : Ac
   pub bytes : List ℕ
   pub takes : Takes e old.trace new.trace old.held.items bytes
   pub sends : SendsFront before after bytes new.held.items
+
+-- so many bytes of entries are sent at once
+abbrev pub enough : ℕ
+enough = 65536
+
+-- less is held than is sent at once
+abbrev pub HoldsLittle : ChromeText → Type 0
+HoldsLittle text = length text.held.items < enough
 
 -- what was held was sent
 pub record SendsHeld (old new : ChromeText) (before after : Account) : Type 0 where
@@ -95,23 +105,30 @@ events_taken [] = []
 events_taken (Some e ∷ steps) = e ∷ events_taken steps
 events_taken (None ∷ steps) = events_taken steps
 
--- the time of the first of events, 0 where there is none, and the greatest time of theirs and this one
+-- the time of the first of events, 0 where there is none
 abbrev pub first_time : List ShownEvent → ℕ
 first_time [] = 0
 first_time (e ∷ es) = e.time
 
+-- the greatest of a time and of those when events end
 abbrev pub last_time : ℕ → List ShownEvent → ℕ
 last_time n [] = n
-last_time n (e ∷ es) = last_time (max n e.time) es
+last_time n (e ∷ es) = last_time (max n (end_time e)) es
 
 -- the frames after events
 abbrev pub frames_over : List ShownEvent → List Frame → List Frame
 frames_over [] fs = fs
 frames_over (e ∷ es) fs = frames_over es (frames_after e fs)
 
--- what is told of an event is its JSON, as it stands in its line, and it has the entries of its counters
-abbrev pub IsTaken : TakenEvent → Type 0
-IsTaken x = IsLineOf (IsEventJson x.event) (x.told.json ++ line_feed ∷ []) × HasCounts x
+-- Events were taken, the first of them after such tracks, frames and sums. What is told of each is its JSON, as it
+-- stands in its line, and the number of the frame of its stack. Its counters show the sums of all events so far.
+abbrev pub AreTaken : List TakenEvent → List Track → List Frame → List Sum → Type 0
+AreTaken [] ts fs sums = ⊤
+AreTaken (x ∷ xs) ts fs sums =
+    IsLineOf (IsEventJson x.event) (x.told.json ++ line_feed ∷ []) × (x.told.frame ≡ frame_of x.event fs)
+    × AreCounts x.event (track_number x.event ts) x.event.time sums x.counts
+    × AreTaken xs (tracks_after x.event ts) (frames_after x.event fs)
+    (sums_of x.event (track_number x.event ts) sums)
 
 -- the text of events, from the head to the tail
 abbrev pub whole_text : List ℕ → List TakenEvent → List ℕ
@@ -125,7 +142,7 @@ whole_text name xs =
 pub record SendsText (name : List ℕ) (es : List ShownEvent) (before after : Account) : Type 0 where
   pub taken : List TakenEvent
   pub events : map (λ x. x.event) taken ≡ es
-  pub told : AllByRecursion IsTaken taken
+  pub told : AreTaken taken [] [] []
   pub sent : TookOnly before after (whole_text name taken) []
 
 -- From its beginning over any steps to its end a text is sent whole, with each event once and in its place.

@@ -5,7 +5,7 @@ use Rattle.dial9_trace_format.specs.ShownEvents.{ShownEvent}
 use Rattle.trace_json.specs.EventJson.{IsEventJson}
 use Rattle.trace_json.specs.Lines.{IsLineOf, line_feed}
 use Rattle.trace_folded.specs.Stacks.{first_stack}
-use Rattle.trace_chrome.specs.Labels.{what_of, track_name, event_name}
+use Rattle.trace_chrome.specs.Labels.{what_of, track_name, event_name, end_time}
 use Rattle.trace_chrome.specs.Tracks.{Track, track_at, number_of, with_track}
 use Rattle.trace_chrome.specs.Slices.{naming, own_by, tracks_by}
 use Rattle.trace_chrome.specs.Frames.{Frame, with_stack, number_of_stack}
@@ -62,7 +62,7 @@ pub record Takes (e : ShownEvent) (old new : ChromeTrace) (earlier bytes : List 
   pub counts : List Entry
   pub counts_are : AreCounts e (track_number e old.tracks.items) e.time old.sums.items counts
   pub start : new.start ≡ Some (first_by old.start e.time)
-  pub last : new.last ≡ max old.last e.time
+  pub last : new.last ≡ max old.last (end_time e)
   pub tracks : new.tracks.items ≡ tracks_after e old.tracks.items
   pub frames : new.frames.all.keys ≡ frames_after e old.frames.all.keys
   pub sums : new.sums.items ≡ sums_of e (track_number e old.tracks.items) old.sums.items

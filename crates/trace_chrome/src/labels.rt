@@ -1,17 +1,20 @@
 //! What an event is called, where it lies, and what it is.
 
-ghost use Rattle.std.specs.Prelude.{◌≡◌, ◌*◌, IfOk, option_map, option_copied, string_bytes, find, codes};
+ghost use Rattle.std.specs.Prelude.{◌≡◌, ◌+◌, ◌*◌, IfOk, option_map, option_copied, string_bytes, find};
+ghost use Rattle.std.specs.Prelude.{codes, from_bits};
+ghost use Rattle.std.specs.Float.Ieee.{binary64};
 ghost use Rattle.std.specs.Option.{unwrap_or};
 ghost use Rattle.trace_roles.specs.Roles.{is_note};
 ghost use Rattle.trace_roles.specs.Units.{nanoseconds_in};
 ghost use Rattle.trace_values.specs.ValueViews.{view};
 ghost use Rattle.trace_events.specs.OwnedEvents.{owned_event};
 ghost use Rattle.trace_chrome.specs.Labels.{text_of, value_at, home, label, track_name, event_name};
-ghost use Rattle.trace_chrome.specs.Labels.{is_unknown, lies_nowhere, natural_of, natural_in};
-ghost use Rattle.trace_chrome.specs.Labels.{unit_of, unit_by, capped, length_by, what_of};
+ghost use Rattle.trace_chrome.specs.Labels.{is_unknown, lies_nowhere, natural_in, unit_of, unit_by};
+ghost use Rattle.trace_chrome.specs.Labels.{capped, float_length, length_in, length_by, what_of, end_by};
 ghost use Rattle.trace_chrome.specs.parts.Shapes.{what_view};
 
 use std::alloc::{AllocError, Global};
+use std::num::{f64_from_bits_with_nan, nearest_u64_to_f64, saturating_f64_to_u64};
 use trace_events::event::OwnedEvent;
 use trace_roles::roles::{OF_SCHEMA, note_of, roles_of};
 use trace_roles::units::nanoseconds_in;
@@ -76,11 +79,36 @@ fn is_unknown(strings: &StringPool, value: &FieldValue) -> bool
 fn length_by(event: &OwnedEvent<'_>, index: usize) -> u64
     ensures { result ≡ length_by (owned_event event.now) index }
 {
-    let number = match value_at(event, Some(index)) {
-        Some(value) => natural_of(value),
+    let unit = unit_at(event.schema, index);
+    match value_at(event, Some(index)) {
+        Some(value) => length_in(unit, value),
         None => 0,
-    };
-    capped(number, unit_at(event.schema, index))
+    }
+}
+
+// So many of a unit that a value is, in nanoseconds, and 0 of what is no number from 0 on.
+fn length_in(unit: u64, value: &FieldValue) -> u64
+    ensures { result ≡ length_in unit (view value.now) }
+{
+    match value {
+        FieldValue::Varint(number) => capped(*number, unit),
+        FieldValue::I64(number) => capped(natural(*number), unit),
+        FieldValue::F64(bits) => float_length(unit, *bits),
+        _ => 0,
+    }
+}
+
+// So many of a unit that a float is, by its bits, in whole nanoseconds; 0 where it is below 0, infinite or no number.
+fn float_length(unit: u64, bits: u64) -> u64
+    ensures { result ≡ float_length unit (from_bits binary64 bits) }
+{
+    let float = f64_from_bits_with_nan(bits);
+    if float.is_finite() {
+        let product = float * nearest_u64_to_f64(unit);
+        saturating_f64_to_u64(product.round())
+    } else {
+        0
+    }
 }
 
 // How many nanoseconds one of a field's unit is.
@@ -127,14 +155,23 @@ fn capped(number: u64, unit: u64) -> u64
     }
 }
 
-// The number from 0 on that a value is, and 0 of any other.
-fn natural_of(value: &FieldValue) -> u64
-    ensures { result ≡ natural_of (view value.now) }
+/// When an event ends that begins at a time, by what it is: a slice after its length, at the greatest time at most.
+pub(crate) fn end_by(at: u64, what: What<'_>) -> u64
+    ensures { result ≡ end_by at (what_view what.entry) }
 {
-    match value {
-        FieldValue::Varint(number) => *number,
-        FieldValue::I64(number) => natural(*number),
-        _ => 0,
+    match what {
+        What::Takes(length) => later_by(at, length),
+        What::Begins(_) | What::Ends(_) | What::Happens => at,
+    }
+}
+
+// So many nanoseconds after a time, at the greatest time at most.
+fn later_by(at: u64, length: u64) -> u64
+    ensures { result ≡ capped (at + length) }
+{
+    match at.checked_add(length) {
+        Some(end) => end,
+        None => u64::MAX,
     }
 }
 

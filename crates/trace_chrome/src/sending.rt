@@ -3,7 +3,7 @@
 ghost use Rattle.std.specs.Prelude.{◌++◌, [], IfErr, IfOk, OnOk};
 ghost use Rattle.trace_values.specs.Sending.{TookOnly};
 ghost use Rattle.trace_events.specs.OwnedEvents.{owned_event};
-ghost use Rattle.trace_chrome.specs.Sending.{BeginsText, SendsEvent, SendsHeld, ending_text};
+ghost use Rattle.trace_chrome.specs.Sending.{BeginsText, SendsEvent, SendsHeld, HoldsLittle, ending_text};
 ghost use Rattle.trace_chrome.specs.Sending.{EventFails, HeldFails, EndFails};
 
 use crate::trace::ChromeTrace;
@@ -64,7 +64,8 @@ impl ChromeText {
         Ok(ChromeText { trace, held })
     }
 
-    /// Puts an event's entries after what is held, and sends all of that where it is enough.
+    /// Puts an event's entries after what is held, and sends all of that where it is enough: less than `ENOUGH` is held
+    /// then.
     /// `ChromeError::OutOfMemory` where a growth was refused, before anything was sent, and `ChromeError::Writer` where
     /// the writer failed: then the text is good for nothing.
     pub fn send_event<W: TraceWrite>(
@@ -74,6 +75,7 @@ impl ChromeText {
     ) -> Result<(), ChromeError>
         ensures sent { OnOk result (SendsEvent (owned_event event.now) self.old self.new
             (W.told out.old) (W.told out.new)) }
+        ensures held { OnOk result (HoldsLittle self.new) }
         ensures refused { IfErr result
             (EventFails W.told (owned_event event.now) self.old out.old out.new) }
     {

@@ -17,7 +17,7 @@ use crate::entries::{
     push_track_name,
 };
 use crate::frames::Frames;
-use crate::labels::{What, event_name, track_name, what_of};
+use crate::labels::{What, end_by, event_name, track_name, what_of};
 use crate::tracks::{Track, begin_on, end_on, place_of};
 use std::alloc::{AllocError, Global};
 use trace_events::event::OwnedEvent;
@@ -30,7 +30,7 @@ pub struct ChromeTrace {
     alloc: Global,
     // the time of the first event
     start: Option<u64>,
-    // the greatest time
+    // the greatest time of an event, or of the end of a slice with a length
     last: u64,
     tracks: Vec<Track>,
     // the frames of stacks
@@ -77,7 +77,7 @@ impl ChromeTrace {
         let at = event.timestamp_ns;
         let from = first_time(self.start, at);
         self.start = Some(from);
-        self.last = later(self.last, at);
+        self.last = later(self.last, end_by(at, what_of(event)));
         let json = event_json(self.alloc, event)?;
         let frame = frame_of(&mut self.frames, event)?;
         let told = Told { frame, json: &json };

@@ -1,5 +1,6 @@
 -- What stacks add up to.
-use Rattle.std.specs.Prelude.{◌≡◌, ℕ, ◌+◌, List, ◌++◌, String, if◌then◌else◌, codes, decimal, string_bytes, false}
+use Rattle.std.specs.Prelude.{◌≡◌, ℕ, zero, suc, ◌+◌, List, [], ◌++◌, String, if◌then◌else◌, codes, decimal}
+use Rattle.std.specs.Prelude.{string_bytes, false}
 use Rattle.std.specs.BTreeMap.{get_by_text, BTreeMap}
 use Rattle.std.specs.Str.{bytes_eq}
 use Rattle.std.specs.Option.{unwrap_or}
@@ -21,6 +22,11 @@ abbrev pub PutsNoOther : {Y : Type 0} → BTreeMap (String Y) ℕ → BTreeMap (
 PutsNoOther old new text =
     (other : List ℕ) → bytes_eq text other ≡ false → get_by_text new other ≡ get_by_text old other
 
--- the line of a text and its number
+-- the line of a text and its number, and none of number 0
+abbrev pub line_of : List ℕ → ℕ → List ℕ
+line_of text zero = []
+line_of text (suc n) = text ++ (codes " " ++ (decimal (suc n) ++ codes "\n"))
+
+-- that of an entry
 abbrev pub count_line : {Y : Type 0} → String Y × ℕ → List ℕ
-count_line e = string_bytes e.0 ++ (codes " " ++ (decimal e.1 ++ codes "\n"))
+count_line e = line_of (string_bytes e.0) e.1

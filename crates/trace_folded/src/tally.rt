@@ -1,12 +1,12 @@
 //! What stacks add up to.
 
-ghost use Rattle.std.specs.Prelude.{◌≡◌, ◌≤◌, ◌^◌, ℕ, List, ◌+◌, OnOk, OnErr, IfOk, IfErr, ◌++◌, codes};
-ghost use Rattle.std.specs.Prelude.{Option, [], decimal, string_bytes};
+ghost use Rattle.std.specs.Prelude.{◌≡◌, ◌≤◌, ◌^◌, ℕ, List, ◌+◌, OnOk, OnErr, IfOk, IfErr, ◌++◌};
+ghost use Rattle.std.specs.Prelude.{Option, [], string_bytes};
 ghost use Rattle.std.specs.List.{flat_map};
 ghost use Rattle.std.specs.BTreeMap.{IsUnchanged};
 ghost use Rattle.trace_folded.specs.Stacks.{folded_text};
 ghost use Rattle.trace_folded.specs.Events.{AreCountsOf};
-ghost use Rattle.trace_folded.specs.Tallies.{count_of, CountsMore, PutsNoOther, count_line};
+ghost use Rattle.trace_folded.specs.Tallies.{count_of, CountsMore, PutsNoOther, line_of, count_line};
 ghost use Rattle.trace_folded.specs.parts.Tallies.{SetsCount};
 ghost use Rattle.trace_folded.specs.declared.tally.FoldError.TheVariants.{OutOfMemory, Full};
 
@@ -64,8 +64,8 @@ impl FoldedStacks {
         }
     }
 
-    /// The lines of all stacks, in the order of their texts: each its text, a space, its number, and a line feed.
-    /// `AllocError` where a growth was refused.
+    /// The lines of all stacks but those of number 0, in the order of their texts: each its text, a space, its number,
+    /// and a line feed. `AllocError` where a growth was refused.
     pub fn lines(&self) -> Result<String, AllocError>
         ensures { IfOk result (λ lines. string_bytes lines
             ≡ flat_map count_line self.now.counts.entries) }
@@ -91,11 +91,14 @@ impl FoldedStacks {
     }
 }
 
-// Appends the line of a text.
+// Appends the line of a text, where its number is not 0.
 fn push_line(lines: &mut String, text: &str, count: u64) -> Result<(), AllocError>
     ensures { OnOk result (string_bytes lines.new
-        ≡ string_bytes lines.old ++ (text.now ++ (codes " " ++ (decimal count ++ codes "\n")))) }
+        ≡ string_bytes lines.old ++ line_of text.now count) }
 {
+    if count == 0 {
+        return Ok(());
+    }
     lines.push_str(text)?;
     writeln!(lines, " {count}")
 }

@@ -1,4 +1,4 @@
-use Rattle.std.proofs.Common.{◌≡◌, ◌++◌, ap, ◌∙◌, length, rules}
+use Rattle.std.proofs.Common.{◌++◌, ap, ◌∙◌, rules}
 use Rattle.trace_events.specs.OwnedEvents.{owned_event}
 use Rattle.trace_json.specs.EventJson.{IsEventJson}
 use Rattle.trace_chrome.proofs.CutLines.{line_cut}
