@@ -18,11 +18,11 @@ use clap::error::ErrorKind;
 use gotymbe_plan::moments::{moment_given, push_no_moment};
 use gotymbe_words::asked::{Asked, status_by, task_of, what_is_asked};
 use gotymbe_words::command::command;
-use std::env;
 use std::fs::File;
 use std::io::IsTerminal;
 use std::process::ExitCode;
 use std::rt::{Clock, Env, Files};
+use std::{env, io};
 use trace_lines::dump::FAILED;
 
 fn main(rt: HostRuntime) -> ExitCode {
@@ -42,7 +42,11 @@ fn run(
     terminal: bool,
 ) -> anyhow::Result<u8> {
     let alloc = rt.alloc();
-    let words: Vec<String> = env::args(rt)?.collect(alloc)?;
+    let words = match env::args(rt) {
+        Ok(words) => words,
+        Err(error) => return Ok(tell_no_words(rt, error.kind())),
+    };
+    let words: Vec<String> = words.collect(alloc)?;
     let command = command(alloc)?;
     let matches = match command.try_get_matches_from(words.as_slice()) {
         Ok(matches) => matches,
@@ -60,6 +64,20 @@ fn run(
             None => Ok(FAILED),
         },
         None => Ok(FAILED),
+    }
+}
+
+// Tells why the words of the call can't be had, and answers the status.
+fn tell_no_words(rt: &impl Eprint, kind: io::ErrorKind) -> u8 {
+    match kind {
+        io::ErrorKind::InvalidData => {
+            let _ = eprintln!(rt; "error: a word of the call is no text in UTF-8");
+            status_by(ErrorKind::InvalidValue)
+        }
+        _ => {
+            let _ = eprintln!(rt; "gotymbe: out of memory");
+            status_by(ErrorKind::OutOfMemory)
+        }
     }
 }
 

@@ -8,6 +8,9 @@ use std::rt::Files;
 use std::{fs, io};
 use trace_values::leb128::{Plain, TraceWrite, send_all};
 
+/// What standard output is called where it can't be written.
+pub(crate) const STANDARD: &str = "standard output";
+
 /// A writer, and the last kind of error that it gave.
 #[derive(Drop)]
 pub(crate) struct Noted<W: TraceWrite + Drop> {

@@ -2,7 +2,7 @@
 
 use crate::input::read_all;
 use crate::merge::merge_all;
-use crate::output::{Noted, Written, begin};
+use crate::output::{Noted, STANDARD, Written, begin};
 use gotymbe_plan::ending::{Ending, is_kept, push_message, status_of};
 use gotymbe_plan::filter::Wanted;
 use gotymbe_plan::moments::{Moment, is_any_date};
@@ -78,7 +78,7 @@ pub(crate) fn write(
     call: &Call<'_>,
 ) -> Result<u8, AllocError> {
     match call.asked.output {
-        None => write_to(rt, call, "standard output", Plain(io::writer(rt))),
+        None => write_to(rt, call, STANDARD, Plain(io::writer(rt))),
         Some(name) => match begin(rt, name, call.asked.force) {
             Ok(written) => write_file(rt, call, name, written),
             Err(ending) => tell(rt, name, ending),

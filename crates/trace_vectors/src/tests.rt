@@ -10,6 +10,7 @@ mod faulty_inputs;
 mod feeding;
 mod frames;
 mod hashers;
+mod large_events;
 mod layouts;
 mod lent;
 mod mixed;

@@ -11,4 +11,5 @@ mod roles;
 mod segments;
 mod statistics;
 mod tables;
+mod texts;
 mod wide;

@@ -2,7 +2,7 @@
 
 use crate::follow::{End, Following};
 use crate::input::unread;
-use crate::output::{Noted, standing};
+use crate::output::{Noted, STANDARD, standing};
 use crate::pieces::{ending_by, placed};
 use crate::tasks::{Call, tell, write};
 use dial9_trace_format::decoder::FeedDecoder;
@@ -47,11 +47,19 @@ pub(crate) fn follow(
                     Ending::Dumped(_) => placed(rt, call, name, ending_by(&decoder)),
                     ending => ending,
                 };
-                return tell(rt, name, ending);
+                return tell(rt, told_of(name, ending), ending);
             }
         }
     }
     Ok(FAILED)
+}
+
+// The name of the file that an ending is told of: what is written goes to standard output.
+fn told_of(name: &str, ending: Ending) -> &str {
+    match ending {
+        Ending::Unwritten(_) => STANDARD,
+        _ => name,
+    }
 }
 
 // Tells why a file is read anew.

@@ -3,7 +3,7 @@
 use crate::clocks::zero_of;
 use crate::events::{EventLines, Form};
 use crate::input::{open, unread};
-use crate::output::Noted;
+use crate::output::{Noted, STANDARD};
 use crate::pieces::{Picked, Tally, ending_by, ending_of, placed, read_named};
 use crate::tasks::{Call, settle, tell};
 use dial9_trace_format::decoder::FeedDecoder;
@@ -12,17 +12,22 @@ use gotymbe_plan::statistics::push_stats;
 use gotymbe_words::asked::Task;
 use std::alloc::AllocError;
 use std::fs::File;
+use std::io;
 use std::rt::{Clock, Files};
 use trace_lines::dump::WHOLE;
 use trace_lines::pieces::dump_fed;
 use trace_stats::trace::TraceStats;
-use trace_values::leb128::{TraceWrite, send_all};
+use trace_values::leb128::{Plain, TraceWrite, send_all};
 
 /// Tells of each file whether it is whole.
 pub(crate) fn check(
     rt: &(impl AllocGlobal + Files<File = File> + Input + Print + Eprint + Clock),
     call: &Call<'_>,
 ) -> Result<u8, AllocError> {
+    let mut out = Noted {
+        inner: Plain(io::writer(rt)),
+        error: None,
+    };
     let mut status = WHOLE;
     for name in call.asked.files.as_slice() {
         let ending = ending_of(rt, call, name);
@@ -30,10 +35,12 @@ pub(crate) fn check(
         if ending == Ending::Whole {
             let mut line = String::new(rt.alloc());
             push_whole(&mut line, name)?;
-            let _ = print!(rt; "{line}");
+            if let Err(fault) = send_all(&mut out, line.as_bytes()) {
+                return tell(rt, STANDARD, Ending::Unwritten(fault.kind));
+            }
         }
     }
-    Ok(status)
+    settle(rt, STANDARD, &mut out, status)
 }
 
 /// Writes what the events of all files add up to.
