@@ -3,14 +3,11 @@
 use crate::tests::ample::events::event;
 use crate::tests::ample::{SIZED, spelled};
 use crate::tests::pieces::read_in;
-use crate::tests::told::{stepping, tells};
 use dial9_trace_format::types::FieldType;
 use std::alloc::{AllocError, Global};
 use std::test::Fail;
 use trace_lines::dump::WHOLE;
 use trace_lines::pieces::dump_pieces;
-use trace_samples::Told;
-use trace_values::leb128::Faults;
 
 /// A header, the schema `K` with the fields `o: OptionalU8`, `p: OptionalU8` and `f: DynamicList`, and the front of an
 /// event of it at 0: no value, 7, and the count 10,500 of items.
@@ -71,10 +68,10 @@ fn items_of_each_type(rt: HostRuntime) -> Result<(), Fail> {
     let bytes = trace(rt.alloc())?;
     let lines = lines(rt.alloc())?;
     for step in [1_000, 4_096usize] {
-        let mut told = Told::new(stepping(65_536));
-        let status = dump_pieces(rt.alloc(), &mut read_in(&bytes, step, 100), &mut told);
+        let mut out: Vec<u8> = Vec::new(rt.alloc());
+        let status = dump_pieces(rt.alloc(), &mut read_in(&bytes, step, 100), &mut out);
         assert!(rt; status == WHOLE);
-        assert!(rt; tells(&told, lines.as_bytes(), Faults::NoFault, true));
+        assert!(rt; out.as_slice() == lines.as_bytes());
     }
     Ok(())
 }
@@ -82,8 +79,8 @@ fn items_of_each_type(rt: HostRuntime) -> Result<(), Fail> {
 /// An event of a value of this size is dumped to the end.
 fn is_dumped(alloc: Global, field_type: FieldType, size: usize) -> Result<bool, Fail> {
     let bytes = event(alloc, field_type, &spelled(alloc, field_type, size)?)?;
-    let mut told = Told::new(stepping(65_536));
-    let status = dump_pieces(alloc, &mut read_in(&bytes, 4_096, 1_000), &mut told);
+    let mut out: Vec<u8> = Vec::new(alloc);
+    let status = dump_pieces(alloc, &mut read_in(&bytes, 4_096, 1_000), &mut out);
     Ok(status == WHOLE)
 }
 
