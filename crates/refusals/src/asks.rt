@@ -2,6 +2,7 @@
 
 use dial9_trace_format::encoder::{Call, Encoder, Reply};
 use dial9_trace_format::leb128::{EncodeError, TraceWrite};
+use std::alloc::{AllocError, Global};
 use trace_samples::events::{
     Annotated, ByName, Dynamic, FastSlot, LastSlot, Numbers, Options, Poll, Stacks, Texts, Wide,
 };
@@ -28,8 +29,17 @@ pub enum Ask {
     Flush,
 }
 
+/// The calls of these steps.
+pub fn asks_of(alloc: Global, steps: Vec<Step>) -> Result<Vec<Ask>, AllocError> {
+    let mut asks = Vec::new(alloc);
+    for step in steps {
+        asks.push(ask_of(step))?;
+    }
+    Ok(asks)
+}
+
 /// The call of a step.
-pub fn ask_of(step: Step) -> Ask {
+fn ask_of(step: Step) -> Ask {
     match step {
         Step::Call(call) => Ask::Call(call),
         Step::Slot(event) => Ask::FastSlot(event),

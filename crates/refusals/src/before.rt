@@ -3,7 +3,7 @@
 use crate::calls::{all_owned, decoder_of, next_owned, place_of};
 use crate::plan::{HEADER, new_encoder};
 use dial9_trace_format::codec::{PoolEntry, StackPoolEntry};
-use dial9_trace_format::decoder::{DecodedFrame, Decoder, StackPool, StringPool};
+use dial9_trace_format::decoder::{DecodeError, DecodedFrame, Decoder, StackPool, StringPool};
 use dial9_trace_format::schema::SchemaRegistry;
 use std::alloc::{AllocError, Global};
 
@@ -33,38 +33,72 @@ pub fn what_stood(
     let Some(front) = bytes.get(..place) else {
         return Ok(None);
     };
-    let Some(mut decoder) = Decoder::new(alloc, front) else {
-        let nothing = place == 0 && are_empty(tables);
-        return Ok(if nothing {
-            Some(Stood {
-                frames: 0,
-                events: 0,
-            })
-        } else {
-            None
-        });
+    let Some(decoder) = Decoder::new(alloc, front) else {
+        let nothing = (place == 0) & are_empty(tables);
+        return Ok(none_stood().filter_by(nothing));
     };
-    let Ok(frames) = all_owned(&mut decoder) else {
-        return Ok(None);
-    };
-    let found = Stood {
-        frames: frames.len(),
-        events: events_of(&frames),
-    };
-    let whole = place_of(&decoder) == place && same_schemas(tables.schemas, decoder.registry());
-    let texts = same_texts(tables.texts, decoder.string_pool());
-    let stacks = same_stacks(tables.stacks, decoder.stack_pool());
-    let right = match (texts, stacks) {
+    let same = what_same(decoder, place, tables);
+    let right = match (same.texts, same.stacks) {
         (true, true) => true,
         (false, true) => has_front_of_texts(alloc, bytes, place, tables.texts)?,
         (true, false) => has_front_of_stacks(alloc, bytes, place, tables.stacks)?,
         (false, false) => false,
     };
-    Ok(if whole && right { Some(found) } else { None })
+    Ok(same.stood.filter_by(same.whole & right))
+}
+
+/// No frame stood.
+fn none_stood() -> Stood {
+    Stood {
+        frames: 0,
+        events: 0,
+    }
+}
+
+impl Stood {
+    /// The same, if it is so.
+    fn filter_by(self, is_so: bool) -> Option<Stood> {
+        if is_so { Some(self) } else { None }
+    }
+}
+
+/// What stands in a front of a trace, and what of the tables is what it leaves.
+#[derive(Clone, Copy)]
+struct Same {
+    stood: Stood,
+    /// Whether it is whole, and the schemas are those that it leaves.
+    whole: bool,
+    texts: bool,
+    stacks: bool,
+}
+
+/// What the decoder of a front that ends at this place gives, beside these tables.
+fn what_same(mut decoder: Decoder<'_>, place: usize, tables: Tables<'_>) -> Same {
+    let read = stood_in(all_owned(&mut decoder));
+    let ended = place_of(&decoder) == place;
+    let schemas = same_schemas(tables.schemas, decoder.registry());
+    Same {
+        stood: read.unwrap_or(none_stood()),
+        whole: read.is_some() & ended & schemas,
+        texts: same_texts(tables.texts, decoder.string_pool()),
+        stacks: same_stacks(tables.stacks, decoder.stack_pool()),
+    }
+}
+
+/// How many frames were given, and events among them, if no error was.
+fn stood_in(answer: Result<Vec<DecodedFrame>, DecodeError>) -> Option<Stood> {
+    match answer {
+        Ok(frames) => Some(Stood {
+            frames: frames.len(),
+            events: events_of(&frames),
+        }),
+        Err(_) => None,
+    }
 }
 
 fn are_empty(tables: Tables<'_>) -> bool {
-    tables.schemas.entries().next().is_none() && tables.texts.is_empty() && tables.stacks.is_empty()
+    let schemas = tables.schemas.entries().next().is_none();
+    schemas & tables.texts.is_empty() & tables.stacks.is_empty()
 }
 
 fn events_of(frames: &[DecodedFrame]) -> usize {
@@ -102,13 +136,25 @@ fn has_front_of_texts(
     };
     for count in 1..=entries.len() {
         let spelled = texts_frame(alloc, &entries[..count])?;
-        let trace = joined(alloc, bytes, place, &spelled)?;
-        let mut decoder = decoder_of(alloc, &trace)?;
-        if all_owned(&mut decoder).is_ok() && same_texts(pool, decoder.string_pool()) {
+        if leaves_texts(alloc, &joined(alloc, bytes, place, &spelled)?, pool)? {
             return Ok(true);
         }
     }
     Ok(false)
+}
+
+/// Whether a trace leaves these texts.
+fn leaves_texts(alloc: Global, trace: &[u8], pool: &StringPool) -> Result<bool, AllocError> {
+    let mut decoder = decoder_of(alloc, trace)?;
+    let read = all_owned(&mut decoder).is_ok();
+    Ok(same_texts(pool, decoder.string_pool()) & read)
+}
+
+/// The same of stacks.
+fn leaves_stacks(alloc: Global, trace: &[u8], pool: &StackPool) -> Result<bool, AllocError> {
+    let mut decoder = decoder_of(alloc, trace)?;
+    let read = all_owned(&mut decoder).is_ok();
+    Ok(same_stacks(pool, decoder.stack_pool()) & read)
 }
 
 /// The same of stacks.
@@ -123,9 +169,7 @@ fn has_front_of_stacks(
     };
     for count in 1..=entries.len() {
         let spelled = stacks_frame(alloc, &entries[..count])?;
-        let trace = joined(alloc, bytes, place, &spelled)?;
-        let mut decoder = decoder_of(alloc, &trace)?;
-        if all_owned(&mut decoder).is_ok() && same_stacks(pool, decoder.stack_pool()) {
+        if leaves_stacks(alloc, &joined(alloc, bytes, place, &spelled)?, pool)? {
             return Ok(true);
         }
     }

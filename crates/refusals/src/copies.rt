@@ -35,16 +35,14 @@ impl Trial for CopyOfRef<'_, '_> {
 
 /// `DecodedFrameRef::to_owned`.
 #[derive(Drop)]
-struct OwnedFrame<'f, 'b> {
-    frame: &'f DecodedFrameRef<'b>,
-    owned: DecodedFrame,
-}
+struct OwnedFrame<'f, 'b>(&'f DecodedFrameRef<'b>);
 
 impl Trial for OwnedFrame<'_, '_> {
     fn seen(&self, alloc: Global, number: u32) -> Result<Seen, AllocError> {
+        let wanted = self.0.to_owned(alloc)?;
         refuse(alloc, number);
-        let copy = self.frame.to_owned(alloc);
-        Ok(seen_of(was_refused(alloc), copy, &self.owned))
+        let copy = self.0.to_owned(alloc);
+        Ok(seen_of(was_refused(alloc), copy, &wanted))
     }
 }
 
@@ -100,55 +98,56 @@ fn are_made(alloc: Global, frames: &[u64]) -> Result<bool, AllocError> {
     let made = StackFrames::from_slice(alloc, frames)?;
     let copy = made.clone(alloc)?;
     let text = FieldValue::string(alloc, "text")?;
-    let same = match &text {
+    Ok(is_text(&text) & (copy.as_slice() == frames))
+}
+
+fn is_text(value: &FieldValue) -> bool {
+    match value {
         FieldValue::String(text) => text.as_str() == "text",
         _ => false,
-    };
-    Ok(same && copy.as_slice() == frames)
+    }
 }
 
 /// Copies each entry of the pools.
-fn sweep_entries(
-    alloc: Global,
-    frame: &DecodedFrame,
-    counts: &mut Counts,
-) -> Result<(), AllocError> {
+fn sweep_entries(alloc: Global, frame: &DecodedFrame, counts: &mut Counts) {
     match frame {
-        DecodedFrame::StringPool(entries) => {
-            for entry in entries {
-                sweep(alloc, &CopyOfText(entry), counts)?;
-            }
-        }
-        DecodedFrame::StackPool(entries) => {
-            for entry in entries {
-                sweep(alloc, &CopyOfStack(entry), counts)?;
-                sweep(alloc, &Made(&entry.frames), counts)?;
-            }
-        }
+        DecodedFrame::StringPool(entries) => sweep_texts(alloc, entries, counts),
+        DecodedFrame::StackPool(entries) => sweep_stacks(alloc, entries, counts),
         _ => {}
     }
-    Ok(())
+}
+
+fn sweep_texts(alloc: Global, entries: &[PoolEntry], counts: &mut Counts) {
+    for entry in entries {
+        sweep(alloc, &CopyOfText(entry), counts);
+    }
+}
+
+fn sweep_stacks(alloc: Global, entries: &[StackPoolEntry], counts: &mut Counts) {
+    for entry in entries {
+        sweep(alloc, &CopyOfStack(entry), counts);
+        sweep(alloc, &Made(&entry.frames), counts);
+    }
+}
+
+/// Copies each value of an event.
+fn sweep_fields(alloc: Global, frame: &DecodedFrameRef<'_>, counts: &mut Counts) {
+    if let DecodedFrameRef::Event { values, .. } = frame {
+        for value in values {
+            sweep(alloc, &CopyOfValue(value), counts);
+        }
+    }
 }
 
 /// Copies each frame of a trace in each way.
-pub fn sweep_copies(
-    alloc: Global,
-    reference: &Reference<'_>,
-    counts: &mut Counts,
-) -> Result<(), AllocError> {
+pub fn sweep_copies(alloc: Global, reference: &Reference<'_>, counts: &mut Counts) {
     for frame in &reference.owned {
-        sweep(alloc, &CopyOfFrame(frame), counts)?;
-        sweep_entries(alloc, frame, counts)?;
+        sweep(alloc, &CopyOfFrame(frame), counts);
+        sweep_entries(alloc, frame, counts);
     }
     for frame in &reference.borrowed {
-        sweep(alloc, &CopyOfRef(frame), counts)?;
-        let owned = frame.to_owned(alloc)?;
-        sweep(alloc, &OwnedFrame { frame, owned }, counts)?;
-        if let DecodedFrameRef::Event { values, .. } = frame {
-            for value in values {
-                sweep(alloc, &CopyOfValue(value), counts)?;
-            }
-        }
+        sweep(alloc, &CopyOfRef(frame), counts);
+        sweep(alloc, &OwnedFrame(frame), counts);
+        sweep_fields(alloc, frame, counts);
     }
-    Ok(())
 }

@@ -58,6 +58,33 @@ fn answer_of(reply: &Reply, wanted: &Reply) -> Answer {
     }
 }
 
+/// What comes of a call over a list.
+#[derive(Clone, Copy)]
+enum Met {
+    /// The list did not grow.
+    Full,
+    /// Anything else.
+    Other(Answer),
+}
+
+impl Met {
+    fn answer(self) -> Answer {
+        match self {
+            Met::Full => Answer::Memory,
+            Met::Other(answer) => answer,
+        }
+    }
+}
+
+/// What came of a call over a list, by its reply beside the one that is wanted.
+fn met_of(reply: &Reply, wanted: &Reply) -> Met {
+    if *reply == Reply::Refused(FULL) {
+        Met::Full
+    } else {
+        Met::Other(answer_of(reply, wanted))
+    }
+}
+
 /// An encoder over an array, which takes no memory. `AllocError` where a growth was refused.
 pub fn over_array(alloc: Global) -> Result<Encoder<Told>, AllocError> {
     match Encoder::new_to(alloc, Told::new(Manner::SOUND)) {
@@ -90,8 +117,8 @@ fn new_encoder_by(alloc: Global, hashing: Hashing) -> Result<Encoder, AllocError
 
 /// Whether the encoder has written so many bytes of these.
 pub fn is_at(encoder: &Encoder<Told>, bytes: &[u8], count: usize) -> bool {
-    bytes.get(..count) == Some(encoder.as_inner().bytes())
-        && encoder.bytes_written() == count as u64
+    let counted = encoder.bytes_written() == count as u64;
+    counted & (bytes.get(..count) == Some(encoder.as_inner().bytes()))
 }
 
 /// The call is made over an array. After a refusal all is as before, and the call made again gives what it would have
@@ -101,26 +128,16 @@ pub struct InArray<'p>(pub Turn<'p>);
 
 impl Trial for InArray<'_> {
     fn seen(&self, alloc: Global, number: u32) -> Result<Seen, AllocError> {
-        let Turn {
-            hashing,
-            plan,
-            before,
-            call,
-            after,
-        } = self.0;
-        let mut encoder = over_array_by(alloc, hashing)?;
-        let mut right = plays(&mut encoder, before);
+        let turn = self.0;
+        let mut encoder = over_array_by(alloc, turn.hashing)?;
+        let mut right = plays(&mut encoder, turn.before);
         refuse(alloc, number);
-        let reply = make(&mut encoder, &call.ask);
+        let answer = answer_of(&make(&mut encoder, &turn.call.ask), &turn.call.reply);
         let refused = was_refused(alloc);
-        let answer = answer_of(&reply, &call.reply);
         if answer == Answer::Memory {
-            right = is_at(&encoder, &plan.bytes, call.start) && right;
-            right = make(&mut encoder, &call.ask) == call.reply && right;
+            right &= turn.is_made_again(&mut encoder);
         }
-        right = is_at(&encoder, &plan.bytes, call.end) && right;
-        right = plays(&mut encoder, after) && right;
-        right = is_at(&encoder, &plan.bytes, plan.bytes.len()) && right;
+        right &= turn.is_ended(&mut encoder);
         Ok(Seen {
             refused,
             answer,
@@ -136,33 +153,19 @@ pub struct InList<'p>(pub Turn<'p>);
 
 impl Trial for InList<'_> {
     fn seen(&self, alloc: Global, number: u32) -> Result<Seen, AllocError> {
-        let Turn {
-            hashing,
-            plan,
-            before,
-            call,
-            after,
-        } = self.0;
-        let mut encoder = new_encoder_by(alloc, hashing)?;
-        let mut right = plays(&mut encoder, before);
+        let turn = self.0;
+        let mut encoder = new_encoder_by(alloc, turn.hashing)?;
+        let mut right = plays(&mut encoder, turn.before);
         refuse(alloc, number);
-        let reply = make(&mut encoder, &call.ask);
+        let reply = make(&mut encoder, &turn.call.ask);
         let refused = was_refused(alloc);
-        let is_full = reply == Reply::Refused(FULL);
-        let answer = if is_full {
-            Answer::Memory
-        } else {
-            answer_of(&reply, &call.reply)
+        let met = met_of(&reply, &turn.call.reply);
+        right &= match met {
+            Met::Full => turn.fails_and_begins_again(alloc, &mut encoder),
+            Met::Other(answer) => turn.goes_on(&mut encoder, answer),
         };
-        right = if is_full {
-            self.0.fails_and_begins_again(alloc, &mut encoder) && right
-        } else {
-            let again = answer != Answer::Memory
-                || is_written(&encoder, &plan.bytes, call.start, call.start)
-                    && make(&mut encoder, &call.ask) == call.reply;
-            again && plays(&mut encoder, after) && right
-        };
-        right = encoder.as_inner().as_slice() == plan.bytes.as_slice() && right;
+        right &= encoder.as_inner().as_slice() == turn.plan.bytes.as_slice();
+        let answer = met.answer();
         Ok(Seen {
             refused,
             answer,
@@ -174,22 +177,60 @@ impl Trial for InList<'_> {
 /// Whether the encoder has written a front of these bytes, and how many lies between these bounds.
 fn is_written(encoder: &Encoder, bytes: &[u8], least: usize, most: usize) -> bool {
     let written = encoder.as_inner().as_slice();
-    bytes.starts_with(written)
-        && least <= written.len()
-        && written.len() <= most
-        && encoder.bytes_written() == written.len() as u64
+    let counted = encoder.bytes_written() == written.len() as u64;
+    let bounded = (least <= written.len()) & (written.len() <= most);
+    bytes.starts_with(written) & bounded & counted
 }
 
 impl Turn<'_> {
+    /// Whether the plan has no more bytes than this.
+    pub fn fits(&self, room: usize) -> bool {
+        self.plan.bytes.len() <= room
+    }
+
+    /// Whether nothing was sent, and the call made again gives what it would have given.
+    fn is_made_again(&self, encoder: &mut Encoder<Told>) -> bool {
+        let kept = is_at(encoder, &self.plan.bytes, self.call.start);
+        kept & (make(encoder, &self.call.ask) == self.call.reply)
+    }
+
+    /// Whether the call's bytes are out, and those of the calls after it once they are made, which are answered so.
+    fn is_ended(&self, encoder: &mut Encoder<Told>) -> bool {
+        let bytes = &self.plan.bytes;
+        let called = is_at(encoder, bytes, self.call.end);
+        let played = plays(encoder, self.after);
+        called & played & is_at(encoder, bytes, bytes.len())
+    }
+
+    /// Whether all is as before where the call found no memory, and it and the calls after it are answered as they
+    /// should be.
+    fn goes_on(&self, encoder: &mut Encoder, answer: Answer) -> bool {
+        let made = answer != Answer::Memory || self.is_written_again(encoder);
+        plays(encoder, self.after) & made
+    }
+
+    /// Whether nothing was written, and the call made again gives what it would have given.
+    fn is_written_again(&self, encoder: &mut Encoder) -> bool {
+        let start = self.call.start;
+        let kept = is_written(encoder, &self.plan.bytes, start, start);
+        kept & (make(encoder, &self.call.ask) == self.call.reply)
+    }
+
     /// Whether a front of the call's bytes is out, the call and all after it are told that the encoder has failed, and
     /// all calls are answered as they should be once it writes to another list.
     fn fails_and_begins_again(self, alloc: Global, encoder: &mut Encoder) -> bool {
         let front = is_written(encoder, &self.plan.bytes, self.call.start, self.call.end);
-        let again = make(encoder, &self.call.ask) == Reply::Refused(EncodeError::Failed);
-        let failed = all_fail(encoder, self.after) && all_fail(encoder, self.before);
+        let failed = self.stays_failed(encoder);
         let kept = is_written(encoder, &self.plan.bytes, self.call.start, self.call.end);
         let reset = encoder.reset_to(Vec::new(alloc)).is_ok();
-        let begun = encoder.as_inner().len() == HEADER && plays(encoder, &self.plan.calls);
-        front && again && failed && kept && reset && begun
+        let begun = encoder.as_inner().len() == HEADER;
+        front & failed & kept & reset & begun & plays(encoder, &self.plan.calls)
+    }
+
+    /// Whether the call, all after it and all before it are told that the encoder has failed.
+    fn stays_failed(&self, encoder: &mut Encoder) -> bool {
+        let again = make(encoder, &self.call.ask) == Reply::Refused(EncodeError::Failed);
+        let after = all_fail(encoder, self.after);
+        again & after & all_fail(encoder, self.before)
     }
 }

@@ -1,11 +1,12 @@
 //! A decoder that is fed a trace in two pieces, each growth of which is refused.
 
-use crate::before::{Tables, what_stood};
+use crate::before::{Stood, Tables, what_stood};
 use crate::calls::feed;
 use crate::heap::{refuse, was_refused};
+use crate::reading::is_told;
 use crate::runs::{Reference, Run, is_same};
 use crate::sweep::Trial;
-use crate::verdict::{Answer, Seen};
+use crate::verdict::Seen;
 use dial9_trace_format::decoder::{DecodeError, DecodedFrame, FeedDecoder};
 use std::alloc::{AllocError, Global};
 
@@ -97,14 +98,14 @@ impl Trial for Feeding<'_, '_> {
         let run = self.run(&mut decoder);
         let refused = was_refused(alloc);
         let answer = run.answer(&whole);
-        let right = match (answer, run.error) {
-            (Answer::Memory, Some(error)) => self.has_failed(alloc, &mut decoder, &run, error)?,
-            _ => true,
+        let right = match run.want_of_memory() {
+            Some(error) => self.has_failed(alloc, &mut decoder, &run, error)?,
+            None => true,
         };
         Ok(Seen {
             refused,
             answer,
-            right: run.same && right,
+            right: run.same & right,
         })
     }
 }
@@ -119,34 +120,41 @@ impl Feeding<'_, '_> {
         run: &Run,
         error: DecodeError,
     ) -> Result<bool, AllocError> {
-        let tables = Tables {
-            schemas: decoder.registry(),
-            texts: decoder.string_pool(),
-            stacks: decoder.stack_pool(),
-        };
-        let stood = match what_stood(alloc, self.reference.bytes, error.pos, tables)? {
-            None => false,
-            Some(stood) => match self.form {
-                Form::Feed => run.given <= stood.frames,
-                Form::Push => run.given == stood.frames,
-            },
-        };
-        let told = match decoder.fault() {
-            Some(fault) => is_same(fault, &error),
-            None => false,
-        };
-        let fed = match feed(decoder, &[7]) {
-            Err(again) => is_same(&again, &error),
-            Ok(_) => false,
-        };
-        let pushed = match push(decoder, &[]) {
-            Err(again) => is_same(&again, &error),
-            Ok(()) => false,
-        };
-        let given = match next_fed(decoder) {
-            Err(again) => is_same(&again, &error),
-            Ok(_) => false,
-        };
-        Ok(stood && told && fed && pushed && given && decoder.position() == error.pos)
+        let stood = what_stood(alloc, self.reference.bytes, error.pos, tables_of(decoder))?;
+        let counted = self.gave(run.given, stood);
+        Ok(counted & stays_failed(decoder, &error))
+    }
+
+    /// Whether as many frames were given as stood before the place where it failed, or fewer where pieces are fed.
+    fn gave(&self, given: usize, stood: Option<Stood>) -> bool {
+        match (self.form, stood) {
+            (Form::Feed, Some(stood)) => given <= stood.frames,
+            (Form::Push, Some(stood)) => given == stood.frames,
+            (_, None) => false,
+        }
+    }
+}
+
+fn tables_of(decoder: &FeedDecoder) -> Tables<'_> {
+    Tables {
+        schemas: decoder.registry(),
+        texts: decoder.string_pool(),
+        stacks: decoder.stack_pool(),
+    }
+}
+
+/// Whether each call answers this error, and the position stays.
+fn stays_failed(decoder: &mut FeedDecoder, error: &DecodeError) -> bool {
+    let mut told = has_fault(decoder.fault(), error);
+    told &= is_told(feed(decoder, &[7]), error);
+    told &= is_told(push(decoder, &[]), error);
+    told &= is_told(next_fed(decoder), error);
+    told & (decoder.position() == error.pos)
+}
+
+fn has_fault(fault: Option<&DecodeError>, error: &DecodeError) -> bool {
+    match fault {
+        Some(fault) => is_same(fault, error),
+        None => false,
     }
 }

@@ -37,37 +37,51 @@ impl Trial for Listed {
     fn seen(&self, alloc: Global, number: u32) -> Result<Seen, AllocError> {
         let mut encoder = over_array(alloc)?;
         refuse(alloc, number);
-        let answer = run_calls(alloc, &mut encoder, &self.calls);
+        let told = run_calls(alloc, &mut encoder, &self.calls);
         let refused = was_refused(alloc);
-        match answer {
-            Err(_) => {
-                let kept = is_at(&encoder, &self.bytes, HEADER);
-                let again = run_calls(alloc, &mut encoder, &self.calls)?;
-                let right = kept && again == self.replies && self.is_whole(&encoder);
-                Ok(Seen {
-                    refused,
-                    answer: Answer::Memory,
-                    right,
-                })
-            }
-            Ok(replies) if replies == self.replies => Ok(Seen {
-                refused,
-                answer: Answer::Same,
-                right: self.is_whole(&encoder),
-            }),
-            Ok(replies) => {
-                let right = self.leaves_one_out(alloc, &replies, &encoder)?;
-                Ok(Seen {
-                    refused,
-                    answer: Answer::Memory,
-                    right,
-                })
-            }
-        }
+        let answer = self.answer_of(&told);
+        let right = match &told {
+            Err(_) => self.runs_now(alloc, &mut encoder)?,
+            Ok(replies) => self.is_right(alloc, answer, replies, &encoder)?,
+        };
+        Ok(Seen {
+            refused,
+            answer,
+            right,
+        })
     }
 }
 
 impl Listed {
+    fn answer_of(&self, told: &Result<Vec<Reply>, AllocError>) -> Answer {
+        match told {
+            Ok(replies) if *replies == self.replies => Answer::Same,
+            _ => Answer::Memory,
+        }
+    }
+
+    /// Whether nothing was run, and all is now.
+    fn runs_now(&self, alloc: Global, encoder: &mut Encoder<Told>) -> Result<bool, AllocError> {
+        let kept = is_at(encoder, &self.bytes, HEADER);
+        let again = run_calls(alloc, encoder, &self.calls)?;
+        Ok(kept & (again == self.replies) & self.is_whole(encoder))
+    }
+
+    /// Whether all is written where the replies are those of the list, and else all but one call.
+    fn is_right(
+        &self,
+        alloc: Global,
+        answer: Answer,
+        replies: &[Reply],
+        encoder: &Encoder<Told>,
+    ) -> Result<bool, AllocError> {
+        if answer == Answer::Same {
+            Ok(self.is_whole(encoder))
+        } else {
+            self.leaves_one_out(alloc, replies, encoder)
+        }
+    }
+
     /// Whether the encoder has written all.
     fn is_whole(&self, encoder: &Encoder<Told>) -> bool {
         is_at(encoder, &self.bytes, self.bytes.len())
@@ -84,16 +98,23 @@ impl Listed {
             return Ok(false);
         };
         let mut other = over_array(alloc)?;
-        for index in 0..self.calls.len() {
-            if index != left_out {
-                let wanted = make_call(&mut other, &self.calls[index]);
-                if replies.get(index) != Some(&wanted) {
-                    return Ok(false);
-                }
-            }
-        }
+        let answered = self.answers_others(&mut other, replies, left_out);
         let written = other.as_inner().bytes();
-        Ok(replies.len() == self.calls.len() && is_at(encoder, written, written.len()))
+        Ok(answered & is_at(encoder, written, written.len()))
+    }
+
+    /// Makes all calls but one, and answers whether each has its reply among these, which are as many as the calls.
+    fn answers_others(
+        &self,
+        encoder: &mut Encoder<Told>,
+        replies: &[Reply],
+        left_out: usize,
+    ) -> bool {
+        let mut right = replies.len() == self.calls.len();
+        for (index, (call, reply)) in self.calls.iter().zip(replies).enumerate() {
+            right &= index == left_out || make_call(encoder, call) == *reply;
+        }
+        right
     }
 }
 

@@ -9,6 +9,7 @@ mod calls;
 mod copies;
 mod dumping;
 mod encoding;
+mod events;
 mod feeding;
 mod free;
 mod heap;
@@ -26,6 +27,7 @@ mod sweep;
 mod tallies;
 mod values;
 mod verdict;
+mod written;
 
 use std::process::ExitCode;
 

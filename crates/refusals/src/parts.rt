@@ -1,12 +1,13 @@
 //! Parts of schemas and registries, each growth of which is refused.
 
 use crate::before::same_schemas;
+use crate::encoding::over_array;
 use crate::heap::{refuse, was_refused};
 use crate::plan::{HEADER, new_encoder};
 use crate::sweep::{Trial, seen_of, sweep};
 use crate::verdict::{Answer, Counts, Seen};
 use dial9_trace_format::TraceEvent;
-use dial9_trace_format::codec::{WireTypeId, compile};
+use dial9_trace_format::codec::{Layout, WireTypeId, compile};
 use dial9_trace_format::encoder::{Encoder, Schema};
 use dial9_trace_format::leb128::EncodeError;
 use dial9_trace_format::schema::{
@@ -15,8 +16,8 @@ use dial9_trace_format::schema::{
 use std::alloc::{AllocError, Global};
 use std::hash::RandomState;
 use std::io::ErrorKind;
+use trace_samples::Told;
 use trace_samples::events::{Annotated, Poll};
-use trace_samples::{Manner, Told};
 
 /// A call that makes a part of a schema.
 #[derive(Clone, Copy, PartialEq, Eq, Debug)]
@@ -49,7 +50,6 @@ const PARTS: [Part; 6] = [
 struct Made<'e> {
     part: Part,
     entry: &'e SchemaEntry,
-    wanted: SchemaEntry,
 }
 
 fn make_part(alloc: Global, part: Part, entry: &SchemaEntry) -> Result<SchemaEntry, AllocError> {
@@ -59,28 +59,33 @@ fn make_part(alloc: Global, part: Part, entry: &SchemaEntry) -> Result<SchemaEnt
         }
         Part::Plain => SchemaEntry::new(alloc, entry.name(), entry.fields()),
         Part::Copy => entry.clone(alloc),
-        Part::Parts => {
-            let fields = copies(alloc, entry.fields())?;
-            let mut annotations = Vec::new(alloc);
-            for annotation in entry.annotations() {
-                annotations.push(annotation.clone(alloc)?)?;
-            }
-            SchemaEntry::from_parts(alloc, entry.name(), fields, annotations)
-        }
-        Part::Pushed => {
-            let mut made = SchemaEntry::new(alloc, entry.name(), entry.fields())?;
-            made.push_annotation_copies(alloc, entry.annotations())?;
-            Ok(made)
-        }
+        Part::Parts => from_parts(alloc, entry),
+        Part::Pushed => pushed(alloc, entry),
         Part::OfType => Annotated::schema_entry(alloc),
     }
 }
 
+fn from_parts(alloc: Global, entry: &SchemaEntry) -> Result<SchemaEntry, AllocError> {
+    let fields = copies(alloc, entry.fields())?;
+    let mut annotations = Vec::new(alloc);
+    for annotation in entry.annotations() {
+        annotations.push(annotation.clone(alloc)?)?;
+    }
+    SchemaEntry::from_parts(alloc, entry.name(), fields, annotations)
+}
+
+fn pushed(alloc: Global, entry: &SchemaEntry) -> Result<SchemaEntry, AllocError> {
+    let mut made = SchemaEntry::new(alloc, entry.name(), entry.fields())?;
+    made.push_annotation_copies(alloc, entry.annotations())?;
+    Ok(made)
+}
+
 impl Trial for Made<'_> {
     fn seen(&self, alloc: Global, number: u32) -> Result<Seen, AllocError> {
+        let wanted = make_part(alloc, self.part, self.entry)?;
         refuse(alloc, number);
         let answer = make_part(alloc, self.part, self.entry);
-        Ok(seen_of(was_refused(alloc), answer, &self.wanted))
+        Ok(seen_of(was_refused(alloc), answer, &wanted))
     }
 }
 
@@ -94,16 +99,28 @@ impl Trial for Shared<'_> {
         refuse(alloc, number);
         let answer = Schema::from_entry(alloc, entry);
         let refused = was_refused(alloc);
-        let answer = match answer {
-            Ok(schema) if *schema.entry() == *self.0 => Answer::Same,
-            Ok(_) => Answer::Other,
-            Err(_) => Answer::Memory,
-        };
-        Ok(Seen {
-            refused,
-            answer,
-            right: true,
-        })
+        Ok(seen_as(refused, same_entry(&answer, self.0)))
+    }
+}
+
+/// What an answer is beside a schema of this entry, fields or all.
+fn same_entry(answer: &Result<Schema, AllocError>, entry: &SchemaEntry) -> Answer {
+    match answer {
+        Ok(schema) => same_or_other(*schema.entry() == *entry),
+        Err(_) => Answer::Memory,
+    }
+}
+
+fn same_or_other(same: bool) -> Answer {
+    if same { Answer::Same } else { Answer::Other }
+}
+
+/// What was seen of a call that answers so.
+fn seen_as(refused: bool, answer: Answer) -> Seen {
+    Seen {
+        refused,
+        answer,
+        right: true,
     }
 }
 
@@ -117,19 +134,20 @@ impl Trial for New<'_> {
         refuse(alloc, number);
         let answer = Schema::new(alloc, self.0.name(), fields);
         let refused = was_refused(alloc);
-        let answer = match answer {
-            Ok(schema) if schema.name() == self.0.name() && schema.fields() == self.0.fields() => {
-                Answer::Same
-            }
-            Ok(_) => Answer::Other,
-            Err(_) => Answer::Memory,
-        };
-        Ok(Seen {
-            refused,
-            answer,
-            right: true,
-        })
+        Ok(seen_as(refused, same_named(&answer, self.0)))
     }
+}
+
+/// What an answer is beside a schema of this name and these fields.
+fn same_named(answer: &Result<Schema, AllocError>, entry: &SchemaEntry) -> Answer {
+    match answer {
+        Ok(schema) => same_or_other(is_named(schema, entry)),
+        Err(_) => Answer::Memory,
+    }
+}
+
+fn is_named(schema: &Schema, entry: &SchemaEntry) -> bool {
+    schema.name() == entry.name() && schema.fields() == entry.fields()
 }
 
 /// Copies of the fields.
@@ -179,16 +197,14 @@ impl Trial for Compiled<'_> {
         refuse(alloc, number);
         let answer = compile(alloc, self.0.fields());
         let refused = was_refused(alloc);
-        let answer = match answer {
-            Ok(layout) if layout.steps() == wanted.steps() => Answer::Same,
-            Ok(_) => Answer::Other,
-            Err(_) => Answer::Memory,
-        };
-        Ok(Seen {
-            refused,
-            answer,
-            right: true,
-        })
+        Ok(seen_as(refused, same_steps(&answer, &wanted)))
+    }
+}
+
+fn same_steps(answer: &Result<Layout, AllocError>, wanted: &Layout) -> Answer {
+    match answer {
+        Ok(layout) => same_or_other(layout.steps() == wanted.steps()),
+        Err(_) => Answer::Memory,
     }
 }
 
@@ -207,19 +223,38 @@ impl Trial for Registered<'_> {
         refuse(alloc, number);
         let told = registry.register(self.id, entry);
         let refused = was_refused(alloc);
-        let answer = match told {
-            Ok(()) => Answer::Same,
-            Err(RegisterError::OutOfMemory) => Answer::Memory,
-            Err(RegisterError::Conflict(_)) => Answer::Other,
-        };
-        let kept = answer != Answer::Memory
-            || same_schemas(&registry, self.registry)
-                && registry.register(self.id, self.entry.clone(alloc)?).is_ok();
+        let answer = answer_of(told);
+        let mut right = true;
+        if answer == Answer::Memory {
+            right = self.is_made_again(alloc, &mut registry)?;
+        }
+        right &= registry.get(self.id) == Some(self.entry);
         Ok(Seen {
             refused,
             answer,
-            right: kept && registry.get(self.id) == Some(self.entry),
+            right,
         })
+    }
+}
+
+fn answer_of(told: Result<(), RegisterError>) -> Answer {
+    match told {
+        Ok(()) => Answer::Same,
+        Err(RegisterError::OutOfMemory) => Answer::Memory,
+        Err(RegisterError::Conflict(_)) => Answer::Other,
+    }
+}
+
+impl Registered<'_> {
+    /// Whether the registry is as before, and takes the entry now.
+    fn is_made_again(
+        &self,
+        alloc: Global,
+        registry: &mut SchemaRegistry,
+    ) -> Result<bool, AllocError> {
+        let kept = same_schemas(registry, self.registry);
+        let entry = self.entry.clone(alloc)?;
+        Ok(registry.register(self.id, entry).is_ok() & kept)
     }
 }
 
@@ -232,26 +267,20 @@ impl Trial for CopyOfRegistry<'_> {
         refuse(alloc, number);
         let answer = self.0.clone();
         let refused = was_refused(alloc);
-        let answer = match answer {
-            Ok(copy) if same_schemas(&copy, self.0) => Answer::Same,
-            Ok(_) => Answer::Other,
-            Err(_) => Answer::Memory,
-        };
-        Ok(Seen {
-            refused,
-            answer,
-            right: true,
-        })
+        Ok(seen_as(refused, same_registry(&answer, self.0)))
+    }
+}
+
+fn same_registry(answer: &Result<SchemaRegistry, AllocError>, registry: &SchemaRegistry) -> Answer {
+    match answer {
+        Ok(copy) => same_or_other(same_schemas(copy, registry)),
+        Err(_) => Answer::Memory,
     }
 }
 
 /// Copies a registry and makes its parts anew.
-pub fn sweep_registry(
-    alloc: Global,
-    registry: &SchemaRegistry,
-    counts: &mut Counts,
-) -> Result<(), AllocError> {
-    sweep(alloc, &CopyOfRegistry(registry), counts)?;
+pub fn sweep_registry(alloc: Global, registry: &SchemaRegistry, counts: &mut Counts) {
+    sweep(alloc, &CopyOfRegistry(registry), counts);
     for (_, entry) in registry.entries() {
         for id in [WireTypeId(3), WireTypeId(65_535)] {
             let trial = Registered {
@@ -260,39 +289,28 @@ pub fn sweep_registry(
                 entry,
             };
             if registry.get(id).is_none() {
-                sweep(alloc, &trial, counts)?;
+                sweep(alloc, &trial, counts);
             }
         }
-        sweep_entry(alloc, entry, counts)?;
+        sweep_entry(alloc, entry, counts);
     }
-    Ok(())
 }
 
 /// Makes an entry and its parts anew.
-pub fn sweep_entry(
-    alloc: Global,
-    entry: &SchemaEntry,
-    counts: &mut Counts,
-) -> Result<(), AllocError> {
+fn sweep_entry(alloc: Global, entry: &SchemaEntry, counts: &mut Counts) {
     for part in PARTS {
-        let wanted = make_part(alloc, part, entry)?;
-        let trial = Made {
-            part,
-            entry,
-            wanted,
-        };
-        sweep(alloc, &trial, counts)?;
+        sweep(alloc, &Made { part, entry }, counts);
     }
     for field in entry.fields() {
-        sweep(alloc, &Field(field), counts)?;
+        sweep(alloc, &Field(field), counts);
     }
     for annotation in entry.annotations() {
-        sweep(alloc, &Annotation(annotation), counts)?;
+        sweep(alloc, &Annotation(annotation), counts);
     }
-    sweep(alloc, &Shared(entry), counts)?;
-    sweep(alloc, &New(entry), counts)?;
-    sweep(alloc, &Compiled(entry), counts)?;
-    sweep(alloc, &Registering(entry), counts)
+    sweep(alloc, &Shared(entry), counts);
+    sweep(alloc, &New(entry), counts);
+    sweep(alloc, &Compiled(entry), counts);
+    sweep(alloc, &Registering(entry), counts);
 }
 
 /// `Encoder::register_schema` by a new encoder over an array. After a refusal nothing was sent, and the schema is
@@ -302,35 +320,55 @@ struct Registering<'e>(&'e SchemaEntry);
 
 impl Trial for Registering<'_> {
     fn seen(&self, alloc: Global, number: u32) -> Result<Seen, AllocError> {
-        let mut encoder = match Encoder::new_to(alloc, Told::new(Manner::SOUND)) {
-            Ok(encoder) => encoder,
-            Err(_) => return Err(AllocError),
-        };
+        let mut encoder = over_array(alloc)?;
         let fields = copies(alloc, self.0.fields())?;
         refuse(alloc, number);
         let told = encoder.register_schema(self.0.name(), fields);
         let refused = was_refused(alloc);
-        let answer = match &told {
-            Ok(schema) if schema.fields() == self.0.fields() => Answer::Same,
-            Err(EncodeError::OutOfMemory) => Answer::Memory,
-            _ => Answer::Other,
-        };
+        let answer = registered_as(&told, self.0);
         let kept = answer != Answer::Memory || encoder.as_inner().bytes().len() == HEADER;
-        let schema = match told {
-            Ok(schema) => schema,
-            Err(_) => Schema::new(alloc, self.0.name(), copies(alloc, self.0.fields())?)?,
-        };
-        let id = encoder.register_existing(&schema);
-        let mut other = new_encoder(alloc)?;
-        let right = kept
-            && other.register_existing(&schema) == id
-            && other.finish().as_slice() == encoder.as_inner().bytes();
+        let schema = self.schema_of(alloc, told)?;
+        let right = is_registered(alloc, &mut encoder, &schema)? & kept;
         Ok(Seen {
             refused,
             answer,
             right,
         })
     }
+}
+
+/// What an answer is beside a schema of the entry's fields.
+fn registered_as(told: &Result<Schema, EncodeError>, entry: &SchemaEntry) -> Answer {
+    match told {
+        Ok(schema) => same_or_other(schema.fields() == entry.fields()),
+        Err(EncodeError::OutOfMemory) => Answer::Memory,
+        Err(_) => Answer::Other,
+    }
+}
+
+impl Registering<'_> {
+    /// The schema that was made, or one that is made now.
+    fn schema_of(
+        &self,
+        alloc: Global,
+        told: Result<Schema, EncodeError>,
+    ) -> Result<Schema, AllocError> {
+        match told {
+            Ok(schema) => Ok(schema),
+            Err(_) => Schema::new(alloc, self.0.name(), copies(alloc, self.0.fields())?),
+        }
+    }
+}
+
+/// Whether the schema is registered now, as by a new encoder.
+fn is_registered(
+    alloc: Global,
+    encoder: &mut Encoder<Told>,
+    schema: &Schema,
+) -> Result<bool, AllocError> {
+    let mut other = new_encoder(alloc)?;
+    let same = encoder.register_existing(schema) == other.register_existing(schema);
+    Ok((encoder.as_inner().bytes() == other.as_inner().as_slice()) & same)
 }
 
 /// A call that makes an encoder over a list; its refusal is that of the list.
@@ -364,16 +402,16 @@ impl Trial for NewEncoder {
         refuse(alloc, number);
         let told = self.make(alloc);
         let refused = was_refused(alloc);
-        let answer = match told {
-            Ok(encoder) if encoder.bytes_written() == HEADER as u64 => Answer::Same,
-            Err(EncodeError::Writer(ErrorKind::OutOfMemory)) => Answer::Memory,
-            _ => Answer::Other,
-        };
-        Ok(Seen {
-            refused,
-            answer,
-            right: true,
-        })
+        Ok(seen_as(refused, made_as(&told)))
+    }
+}
+
+/// What an answer is beside a new encoder over a list.
+fn made_as(told: &Result<Encoder, EncodeError>) -> Answer {
+    match told {
+        Ok(encoder) => same_or_other(encoder.bytes_written() == HEADER as u64),
+        Err(EncodeError::Writer(ErrorKind::OutOfMemory)) => Answer::Memory,
+        Err(_) => Answer::Other,
     }
 }
 

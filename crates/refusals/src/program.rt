@@ -36,18 +36,12 @@ pub fn run(rt: &(impl AllocGlobal + Input + Print + Eprint)) -> ExitCode {
 fn run_all(rt: &(impl AllocGlobal + Input + Print)) -> anyhow::Result<bool> {
     let alloc = rt.alloc();
     let refuses = is_there(alloc);
-    let mut input = Vec::new(alloc);
-    rt.reader().read_to_end(&mut input)?;
     let mut tallies = Tallies::new(RandomState::new(&Sevens)?);
-    let mut traces: u64 = 0;
     tallies.try_samples(alloc)?;
     for worked in ALL {
         tallies.try_worked(alloc, worked)?;
     }
-    for line in str::from_utf8(&input)?.lines() {
-        tallies.try_trace(alloc, &hex::decode(alloc, line)?)?;
-        traces = traces.saturating_add(1);
-    }
+    let traces = try_lines(rt, &mut tallies)?;
     let heap = if refuses {
         "growths are refused"
     } else {
@@ -55,6 +49,18 @@ fn run_all(rt: &(impl AllocGlobal + Input + Print)) -> anyhow::Result<bool> {
     };
     println!(rt; "{heap}; {} worked traces, {traces} others", ALL.len())?;
     tell(rt, refuses, &tallies)
+}
+
+/// Tries the traces on standard input, and answers how many they are.
+fn try_lines(rt: &(impl AllocGlobal + Input), tallies: &mut Tallies) -> anyhow::Result<u64> {
+    let mut input = Vec::new(rt.alloc());
+    rt.reader().read_to_end(&mut input)?;
+    let mut traces: u64 = 0;
+    for line in str::from_utf8(&input)?.lines() {
+        tallies.try_trace(rt.alloc(), &hex::decode(rt.alloc(), line)?)?;
+        traces = traces.saturating_add(1);
+    }
+    Ok(traces)
 }
 
 /// Prints a line for each kind of calls, and answers whether all is right.

@@ -1,6 +1,6 @@
 //! Readers of a trace, each growth of which is refused.
 
-use crate::before::{Tables, what_stood};
+use crate::before::{Stood, Tables, what_stood};
 use crate::calls::{
     all_borrowed, all_owned, decoder_of, next_borrowed, next_into, next_owned, next_ref_into,
     place_of, show, step, step_events, visit,
@@ -8,7 +8,7 @@ use crate::calls::{
 use crate::heap::{refuse, was_refused};
 use crate::runs::{Comparing, Reader, Reference, Run, is_same};
 use crate::sweep::Trial;
-use crate::verdict::{Answer, Seen};
+use crate::verdict::Seen;
 use dial9_trace_format::decoder::{DecodeError, Decoder, TryForEachError};
 use dial9_trace_format::leb128::EncodeError;
 use dial9_trace_format::types::{FieldValue, FieldValueRef};
@@ -30,14 +30,14 @@ impl Trial for Reading<'_, '_> {
         let run = self.reference.run(self.reader, &mut decoder);
         let refused = was_refused(alloc);
         let answer = run.answer(&self.whole);
-        let right = match (answer, run.error) {
-            (Answer::Memory, Some(error)) => self.has_failed(alloc, decoder, run.given, error)?,
-            _ => true,
+        let right = match run.want_of_memory() {
+            Some(error) => self.has_failed(alloc, decoder, run.given, error)?,
+            None => true,
         };
         Ok(Seen {
             refused,
             answer,
-            right: run.same && right,
+            right: run.same & right,
         })
     }
 }
@@ -52,64 +52,85 @@ impl<'b> Reading<'_, 'b> {
         given: usize,
         error: DecodeError,
     ) -> Result<bool, AllocError> {
-        let tables = Tables {
-            schemas: decoder.registry(),
-            texts: decoder.string_pool(),
-            stacks: decoder.stack_pool(),
-        };
-        let stood = what_stood(alloc, self.reference.bytes, error.pos, tables)?;
-        let counted = match (stood, self.reader) {
-            (None, _) => false,
-            (Some(_), Reader::AllOwned | Reader::AllBorrowed) => true,
-            (Some(stood), Reader::Owned | Reader::Borrowed | Reader::Frames) => {
-                stood.frames == given
-            }
-            (Some(stood), _) => stood.events == given,
-        };
-        let failed = stays_failed(&mut decoder, &error)
-            && gives_no_events(alloc, &mut decoder, &error)?;
-        let ended = match self.reader {
-            Reader::Frames | Reader::Events => {
-                step(&mut decoder).is_none() && step_events(&mut decoder).is_none()
-            }
-            _ => true,
-        };
-        let no_encoder = match decoder.into_encoder(Vec::new(alloc)) {
-            Err(error) => error == EncodeError::Failed,
-            Ok(_) => false,
-        };
-        Ok(counted && failed && ended && no_encoder)
+        let stood = what_stood(alloc, self.reference.bytes, error.pos, tables_of(&decoder))?;
+        let counted = gave(self.reader, given, stood);
+        let failed = stays_failed(&mut decoder, &error);
+        let no_events = gives_no_events(alloc, &mut decoder, &error)?;
+        let ended = has_ended(self.reader, &mut decoder);
+        let no_encoder = makes_no_encoder(alloc, decoder);
+        Ok(counted & failed & no_events & ended & no_encoder)
+    }
+}
+
+fn tables_of<'t>(decoder: &'t Decoder<'_>) -> Tables<'t> {
+    Tables {
+        schemas: decoder.registry(),
+        texts: decoder.string_pool(),
+        stacks: decoder.stack_pool(),
+    }
+}
+
+/// Whether the reader gave as many as stood before the place where it failed.
+fn gave(reader: Reader, given: usize, stood: Option<Stood>) -> bool {
+    let Some(stood) = stood else {
+        return false;
+    };
+    match reader {
+        Reader::AllOwned | Reader::AllBorrowed => true,
+        Reader::Owned | Reader::Borrowed | Reader::Frames => stood.frames == given,
+        _ => stood.events == given,
+    }
+}
+
+/// Whether an iterator that gave its error gives no more.
+fn has_ended(reader: Reader, decoder: &mut Decoder<'_>) -> bool {
+    match reader {
+        Reader::Frames | Reader::Events => gives_no_more(decoder),
+        _ => true,
+    }
+}
+
+fn gives_no_more(decoder: &mut Decoder<'_>) -> bool {
+    step(decoder).is_none() & step_events(decoder).is_none()
+}
+
+fn makes_no_encoder(alloc: Global, decoder: Decoder<'_>) -> bool {
+    match decoder.into_encoder(Vec::new(alloc)) {
+        Err(error) => error == EncodeError::Failed,
+        Ok(_) => false,
+    }
+}
+
+/// Whether an answer is this error.
+pub fn is_told<T: Drop>(answer: Result<T, DecodeError>, error: &DecodeError) -> bool {
+    match answer {
+        Err(told) => is_same(&told, error),
+        Ok(_) => false,
     }
 }
 
 /// Whether each call answers this error, and the position stays.
 fn stays_failed(decoder: &mut Decoder<'_>, error: &DecodeError) -> bool {
-    let owned = match next_owned(decoder) {
-        Err(told) => is_same(&told, error),
-        Ok(_) => false,
-    };
-    let borrowed = match next_borrowed(decoder) {
-        Err(told) => is_same(&told, error),
-        Ok(_) => false,
-    };
-    let all = match all_owned(decoder) {
-        Err(told) => is_same(&told, error),
-        Ok(_) => false,
-    };
-    let all_refs = match all_borrowed(decoder) {
-        Err(told) => is_same(&told, error),
-        Ok(_) => false,
-    };
+    let mut told = is_told(next_owned(decoder), error);
+    told &= is_told(next_borrowed(decoder), error);
+    told &= is_told(all_owned(decoder), error);
+    told &= is_told(all_borrowed(decoder), error);
+    told & shows_nothing(decoder, error) & (place_of(decoder) == error.pos)
+}
+
+/// Whether a sink and a visitor are shown nothing, and this error is answered.
+fn shows_nothing(decoder: &mut Decoder<'_>, error: &DecodeError) -> bool {
     let mut sink = Comparing::with(&[]);
-    let shown = match show(decoder, &mut sink) {
-        Err(TryForEachError::Decode(told)) => is_same(&told, error) && sink.run.given == 0,
+    let shown = is_told_to_sink(show(decoder, &mut sink), error);
+    let visited = is_told(visit(decoder, &mut sink), error);
+    shown & visited & (sink.run.given == 0)
+}
+
+fn is_told_to_sink(answer: Result<(), TryForEachError<()>>, error: &DecodeError) -> bool {
+    match answer {
+        Err(TryForEachError::Decode(told)) => is_same(&told, error),
         _ => false,
-    };
-    let visited = match visit(decoder, &mut sink) {
-        Err(told) => is_same(&told, error) && sink.run.given == 0,
-        Ok(()) => false,
-    };
-    owned && borrowed && all && all_refs && shown && visited && place_of(decoder) == error.pos
+    }
 }
 
 /// Whether each call that puts an event into a list answers this error, and empties the list.
@@ -118,15 +139,27 @@ fn gives_no_events(
     decoder: &mut Decoder<'_>,
     error: &DecodeError,
 ) -> Result<bool, AllocError> {
+    let into = gives_no_event(alloc, decoder, error)?;
+    let ref_into = gives_no_event_ref(alloc, decoder, error)?;
+    Ok(into & ref_into & (place_of(decoder) == error.pos))
+}
+
+fn gives_no_event(
+    alloc: Global,
+    decoder: &mut Decoder<'_>,
+    error: &DecodeError,
+) -> Result<bool, AllocError> {
     let mut values = vec![in alloc; FieldValue::None]?;
-    let into = match next_into(decoder, &mut values) {
-        Err(told) => is_same(&told, error) && values.is_empty(),
-        Ok(_) => false,
-    };
+    let told = is_told(next_into(decoder, &mut values), error);
+    Ok(told & values.is_empty())
+}
+
+fn gives_no_event_ref(
+    alloc: Global,
+    decoder: &mut Decoder<'_>,
+    error: &DecodeError,
+) -> Result<bool, AllocError> {
     let mut values = vec![in alloc; FieldValueRef::None]?;
-    let ref_into = match next_ref_into(decoder, &mut values) {
-        Err(told) => is_same(&told, error) && values.is_empty(),
-        Ok(_) => false,
-    };
-    Ok(into && ref_into && place_of(decoder) == error.pos)
+    let told = is_told(next_ref_into(decoder, &mut values), error);
+    Ok(told & values.is_empty())
 }

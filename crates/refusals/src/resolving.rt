@@ -5,9 +5,7 @@ use crate::heap::{refuse, was_refused};
 use crate::sweep::{Trial, sweep};
 use crate::verdict::{Answer, Counts, Seen};
 use dial9_trace_format::DeserError;
-use dial9_trace_format::decoder::{
-    DecodedFrame, EventSink, FeedDecoder, RawEvent, TryForEachError,
-};
+use dial9_trace_format::decoder::{DecodedFrame, EventSink, FeedDecoder, RawEvent};
 use dial9_trace_format::resolve::ResolvedEvent;
 use std::alloc::{AllocError, Global};
 
@@ -18,27 +16,29 @@ fn seen(
     wanted: &Result<Option<ResolvedEvent>, DeserError>,
     again: &Result<Option<ResolvedEvent>, DeserError>,
 ) -> Seen {
-    let answer = if *answer == *wanted {
-        Answer::Same
-    } else {
-        match answer {
-            Err(DeserError::OutOfMemory) => Answer::Memory,
-            _ => Answer::Other,
-        }
-    };
     Seen {
         refused,
-        answer,
+        answer: answer_of(answer, wanted),
         right: *again == *wanted,
     }
 }
 
-/// An event that a sink is shown, and what it resolves to.
-#[derive(Drop)]
-struct Shown<'e, 'b> {
-    event: &'e RawEvent<'b, 'e>,
-    wanted: Result<Option<ResolvedEvent>, DeserError>,
+fn answer_of(
+    answer: &Result<Option<ResolvedEvent>, DeserError>,
+    wanted: &Result<Option<ResolvedEvent>, DeserError>,
+) -> Answer {
+    if *answer == *wanted {
+        return Answer::Same;
+    }
+    match answer {
+        Err(DeserError::OutOfMemory) => Answer::Memory,
+        _ => Answer::Other,
+    }
 }
+
+/// An event that a sink is shown.
+#[derive(Drop)]
+struct Shown<'e, 'b>(&'e RawEvent<'b, 'e>);
 
 fn resolve(alloc: Global, event: &RawEvent<'_, '_>) -> Result<Option<ResolvedEvent>, DeserError> {
     match event.resolve(alloc) {
@@ -49,11 +49,12 @@ fn resolve(alloc: Global, event: &RawEvent<'_, '_>) -> Result<Option<ResolvedEve
 
 impl Trial for Shown<'_, '_> {
     fn seen(&self, alloc: Global, number: u32) -> Result<Seen, AllocError> {
+        let wanted = resolve(alloc, self.0);
         refuse(alloc, number);
-        let answer = resolve(alloc, self.event);
+        let answer = resolve(alloc, self.0);
         let refused = was_refused(alloc);
-        let again = resolve(alloc, self.event);
-        Ok(seen(refused, &answer, &self.wanted, &again))
+        let again = resolve(alloc, self.0);
+        Ok(seen(refused, &answer, &wanted, &again))
     }
 }
 
@@ -64,15 +65,12 @@ struct Resolving {
     counts: Counts,
 }
 
-impl<'b> EventSink<'b, AllocError> for Resolving {
+impl<'b> EventSink<'b, ()> for Resolving {
     ghost step = { λ _ _ _ _. Unit {0} };
 
-    fn event(&mut self, event: &RawEvent<'b, '_>) -> Result<(), AllocError> {
-        let trial = Shown {
-            event,
-            wanted: resolve(self.alloc, event),
-        };
-        sweep(self.alloc, &trial, &mut self.counts)
+    fn event(&mut self, event: &RawEvent<'b, '_>) -> Result<(), ()> {
+        sweep(self.alloc, &Shown(event), &mut self.counts);
+        Ok(())
     }
 }
 
@@ -83,12 +81,9 @@ pub fn sweep_shown(alloc: Global, bytes: &[u8], counts: &mut Counts) -> Result<(
         counts: *counts,
     };
     let mut decoder = decoder_of(alloc, bytes)?;
-    let answer = show(&mut decoder, &mut sink);
+    let _ = show(&mut decoder, &mut sink);
     *counts = sink.counts;
-    match answer {
-        Err(TryForEachError::User(error)) => Err(error),
-        _ => Ok(()),
-    }
+    Ok(())
 }
 
 /// A frame that a fed decoder gave last.
@@ -96,16 +91,16 @@ pub fn sweep_shown(alloc: Global, bytes: &[u8], counts: &mut Counts) -> Result<(
 struct Fed<'d> {
     decoder: &'d FeedDecoder,
     frame: &'d DecodedFrame,
-    wanted: Result<Option<ResolvedEvent>, DeserError>,
 }
 
 impl Trial for Fed<'_> {
     fn seen(&self, alloc: Global, number: u32) -> Result<Seen, AllocError> {
+        let wanted = self.decoder.resolve(self.frame, alloc);
         refuse(alloc, number);
         let answer = self.decoder.resolve(self.frame, alloc);
         let refused = was_refused(alloc);
         let again = self.decoder.resolve(self.frame, alloc);
-        Ok(seen(refused, &answer, &self.wanted, &again))
+        Ok(seen(refused, &answer, &wanted, &again))
     }
 }
 
@@ -116,16 +111,14 @@ pub fn sweep_fed(alloc: Global, bytes: &[u8], counts: &mut Counts) -> Result<(),
         return Err(AllocError);
     }
     for _ in 0..bytes.len() {
-        let frame = match decoder.next_frame() {
-            Ok(Some(frame)) => frame,
-            _ => return Ok(()),
+        let Ok(Some(frame)) = decoder.next_frame() else {
+            return Ok(());
         };
-        let trial = Fed {
-            decoder: &decoder,
-            frame: &frame,
-            wanted: decoder.resolve(&frame, alloc),
-        };
-        sweep(alloc, &trial, counts)?;
+        sweep_frame(alloc, &decoder, &frame, counts);
     }
     Ok(())
+}
+
+fn sweep_frame(alloc: Global, decoder: &FeedDecoder, frame: &DecodedFrame, counts: &mut Counts) {
+    sweep(alloc, &Fed { decoder, frame }, counts);
 }

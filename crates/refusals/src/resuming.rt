@@ -58,8 +58,7 @@ pub fn after_trace(
         Err(EncodeError::OutOfMemory) => return Err(AllocError),
         Err(_) => return Ok(None),
     };
-    let replies = run_calls(alloc, &mut encoder, &calls)?;
-    let written = Vec::from_slice(alloc, encoder.as_inner().bytes())?;
+    let (replies, written) = run_all(alloc, &mut encoder, &calls)?;
     Ok(Some(Resuming {
         hashing,
         bytes,
@@ -67,6 +66,17 @@ pub fn after_trace(
         replies,
         written,
     }))
+}
+
+/// What the calls answer, and what is written then.
+fn run_all(
+    alloc: Global,
+    encoder: &mut Encoder<Told>,
+    calls: &[Call],
+) -> Result<(Vec<Reply>, Vec<u8>), AllocError> {
+    let replies = run_calls(alloc, encoder, calls)?;
+    let written = Vec::from_slice(alloc, encoder.as_inner().bytes())?;
+    Ok((replies, written))
 }
 
 /// A writer that its owner sees again.
@@ -90,35 +100,46 @@ impl Trial for Resuming<'_> {
     fn seen(&self, alloc: Global, number: u32) -> Result<Seen, AllocError> {
         let mut writer = Told::new(Manner::SOUND);
         let mut seen = self.seen_over(alloc, number, Lent(&mut writer))?;
-        let sent = if seen.answer == Answer::Same {
-            self.written.as_slice()
-        } else {
-            &[]
-        };
-        seen.right = seen.right && writer.bytes() == sent && writer.faults() == Faults::NoFault;
+        seen.right &= self.is_sent(seen.answer, &writer);
         Ok(seen)
     }
 }
 
 impl Resuming<'_> {
+    /// Whether what is to be sent after this answer was, without a fault.
+    fn is_sent(&self, answer: Answer, writer: &Told) -> bool {
+        let sent = match answer {
+            Answer::Same => self.written.as_slice(),
+            _ => &[],
+        };
+        (writer.bytes() == sent) & (writer.faults() == Faults::NoFault)
+    }
+
     fn seen_over(&self, alloc: Global, number: u32, writer: Lent<'_>) -> Result<Seen, AllocError> {
         let decoder = read(alloc, self.bytes)?;
         refuse(alloc, number);
         let told = resumed(decoder, writer, self.hashing);
         let refused = was_refused(alloc);
-        let answer = match &told {
-            Ok(_) => Answer::Same,
-            Err(EncodeError::OutOfMemory) => Answer::Memory,
-            Err(_) => Answer::Other,
-        };
-        let right = match told {
-            Ok(mut encoder) => run_calls(alloc, &mut encoder, &self.calls)? == self.replies,
-            Err(_) => true,
+        let (answer, right) = match told {
+            Ok(encoder) => (Answer::Same, self.goes_on(alloc, encoder)?),
+            Err(error) => (answer_of(error), true),
         };
         Ok(Seen {
             refused,
             answer,
             right,
         })
+    }
+
+    /// Whether the calls are answered as they should be.
+    fn goes_on(&self, alloc: Global, mut encoder: Encoder<Lent<'_>>) -> Result<bool, AllocError> {
+        Ok(run_calls(alloc, &mut encoder, &self.calls)? == self.replies)
+    }
+}
+
+fn answer_of(error: EncodeError) -> Answer {
+    match error {
+        EncodeError::OutOfMemory => Answer::Memory,
+        _ => Answer::Other,
     }
 }

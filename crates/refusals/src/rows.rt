@@ -1,9 +1,9 @@
 //! The trace of one event over an array: what stands there at each refusal.
 
-use crate::asks::{Ask, ask_of, make};
+use crate::asks::{Ask, asks_of, make};
 use crate::encoding::{is_at, over_array};
 use crate::heap::{refuse, was_refused};
-use crate::sweep::{Trial, sweep};
+use crate::sweep::{LACKING, Trial, sweep};
 use crate::verdict::{Answer, Counts, Seen};
 use dial9_trace_format::encoder::{Encoder, Reply};
 use dial9_trace_format::leb128::EncodeError;
@@ -15,72 +15,97 @@ use worked_traces::{Worked, bytes_of, parts_of};
 /// the schema too before the event.
 const STARTS: [usize; 2] = [5, 19];
 
-/// The call of this index of the trace of one event.
+/// The call of this index of the trace of one event, before which so many bytes stand.
 #[derive(Drop)]
-struct Row(usize);
+struct Row {
+    index: usize,
+    start: usize,
+}
 
 impl Trial for Row {
     fn seen(&self, alloc: Global, number: u32) -> Result<Seen, AllocError> {
-        let bytes = bytes_of(Worked::OneEvent);
+        let asks = asks_of_one_event(alloc)?;
         let mut encoder = over_array(alloc)?;
-        let mut seen = Seen {
-            refused: false,
-            answer: Answer::Other,
-            right: true,
-        };
-        let mut index: usize = 0;
-        for steps in parts_of(alloc, Worked::OneEvent)? {
-            for step in steps {
-                let ask = ask_of(step);
-                let accepted = if index == self.0 {
-                    self.refuse_once(alloc, number, &mut encoder, &ask, &mut seen)
-                } else {
-                    is_accepted(&make(&mut encoder, &ask))
-                };
-                seen.right = seen.right && accepted;
-                index = index.saturating_add(1);
-            }
-        }
-        seen.right = seen.right && is_at(&encoder, bytes, bytes.len());
+        let mut right = accepts(&mut encoder, asks.get(..self.index));
+        let mut seen = self.seen_of(alloc, number, &mut encoder, asks.get(self.index));
+        right &= accepts(&mut encoder, asks.get(self.index.saturating_add(1)..));
+        let bytes = bytes_of(Worked::OneEvent);
+        right &= is_at(&encoder, bytes, bytes.len());
+        seen.right &= right;
         Ok(seen)
     }
+}
+
+/// The calls of the trace of one event.
+fn asks_of_one_event(alloc: Global) -> Result<Vec<Ask>, AllocError> {
+    match parts_of(alloc, Worked::OneEvent)?.pop() {
+        Some(steps) => asks_of(alloc, steps),
+        None => Err(AllocError),
+    }
+}
+
+/// Makes the calls, and answers whether they are there and each is accepted.
+fn accepts(encoder: &mut Encoder<Told>, asks: Option<&[Ask]>) -> bool {
+    let Some(asks) = asks else {
+        return false;
+    };
+    for ask in asks {
+        if !is_accepted(&make(encoder, ask)) {
+            return false;
+        }
+    }
+    true
 }
 
 fn is_accepted(reply: &Reply) -> bool {
     !matches!(reply, Reply::Refused(_))
 }
 
+fn answer_of(reply: &Reply) -> Answer {
+    match reply {
+        Reply::Refused(EncodeError::OutOfMemory) => Answer::Memory,
+        Reply::Refused(_) => Answer::Other,
+        _ => Answer::Same,
+    }
+}
+
 impl Row {
-    /// Makes the call with a growth refused, and again where it told that; whether it is accepted in the end.
-    fn refuse_once(
+    /// Makes the call with a growth refused, and again where it told that; it is to be accepted in the end.
+    fn seen_of(
         &self,
         alloc: Global,
         number: u32,
         encoder: &mut Encoder<Told>,
-        ask: &Ask,
-        seen: &mut Seen,
-    ) -> bool {
-        refuse(alloc, number);
-        let reply = make(encoder, ask);
-        seen.refused = was_refused(alloc);
-        seen.answer = match reply {
-            Reply::Refused(EncodeError::OutOfMemory) => Answer::Memory,
-            Reply::Refused(_) => Answer::Other,
-            _ => Answer::Same,
+        ask: Option<&Ask>,
+    ) -> Seen {
+        let Some(ask) = ask else {
+            return LACKING;
         };
-        if seen.answer != Answer::Memory {
-            return is_accepted(&reply);
+        refuse(alloc, number);
+        let answer = answer_of(&make(encoder, ask));
+        let refused = was_refused(alloc);
+        let right = match answer {
+            Answer::Memory => self.is_made_again(encoder, ask),
+            Answer::Same => true,
+            Answer::Other => false,
+        };
+        Seen {
+            refused,
+            answer,
+            right,
         }
-        let start = STARTS.get(self.0).copied().unwrap_or(0);
-        seen.right = is_at(encoder, bytes_of(Worked::OneEvent), start);
-        is_accepted(&make(encoder, ask))
+    }
+
+    /// Whether nothing was sent, and the call is accepted now.
+    fn is_made_again(&self, encoder: &mut Encoder<Told>, ask: &Ask) -> bool {
+        let kept = is_at(encoder, bytes_of(Worked::OneEvent), self.start);
+        is_accepted(&make(encoder, ask)) & kept
     }
 }
 
 /// Each growth of the registration, and of the event.
-pub fn sweep_row(alloc: Global, counts: &mut Counts) -> Result<(), AllocError> {
-    for index in 0..STARTS.len() {
-        sweep(alloc, &Row(index), counts)?;
+pub fn sweep_row(alloc: Global, counts: &mut Counts) {
+    for (index, start) in STARTS.into_iter().enumerate() {
+        sweep(alloc, &Row { index, start }, counts);
     }
-    Ok(())
 }

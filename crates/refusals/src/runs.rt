@@ -61,29 +61,40 @@ pub struct Reference<'b> {
 
 /// What the bytes give, if a header stands at their front.
 pub fn reference_of(alloc: Global, bytes: &[u8]) -> Result<Option<Reference<'_>>, AllocError> {
-    let mut owned = Vec::new(alloc);
-    let mut borrowed = Vec::new(alloc);
-    let Some(mut decoder) = Decoder::new(alloc, bytes) else {
+    if Decoder::new(alloc, bytes).is_none() {
         return Ok(None);
-    };
-    for _ in 0..bytes.len() {
-        match next_owned(&mut decoder) {
-            Ok(Some(frame)) => owned.push(frame)?,
-            _ => break,
-        }
-    }
-    let mut decoder = decoder_of(alloc, bytes)?;
-    for _ in 0..bytes.len() {
-        match next_borrowed(&mut decoder) {
-            Ok(Some(frame)) => borrowed.push(frame)?,
-            _ => break,
-        }
     }
     Ok(Some(Reference {
         bytes,
-        owned,
-        borrowed,
+        owned: owned_of(alloc, bytes)?,
+        borrowed: borrowed_of(alloc, bytes)?,
     }))
+}
+
+/// The frames up to the end of the bytes, or the first error.
+fn owned_of(alloc: Global, bytes: &[u8]) -> Result<Vec<DecodedFrame>, AllocError> {
+    let mut frames = Vec::new(alloc);
+    let mut decoder = decoder_of(alloc, bytes)?;
+    for _ in 0..bytes.len() {
+        match next_owned(&mut decoder) {
+            Ok(Some(frame)) => frames.push(frame)?,
+            _ => break,
+        }
+    }
+    Ok(frames)
+}
+
+/// The same of frames whose values stay in the bytes.
+fn borrowed_of(alloc: Global, bytes: &[u8]) -> Result<Vec<DecodedFrameRef<'_>>, AllocError> {
+    let mut frames = Vec::new(alloc);
+    let mut decoder = decoder_of(alloc, bytes)?;
+    for _ in 0..bytes.len() {
+        match next_borrowed(&mut decoder) {
+            Ok(Some(frame)) => frames.push(frame)?,
+            _ => break,
+        }
+    }
+    Ok(frames)
 }
 
 /// What a reader gave up to its end.
@@ -113,6 +124,18 @@ impl Run {
         self.same = self.same && same;
     }
 
+    /// The same, which is to come before an error.
+    fn give_before_error(&mut self, same: bool) {
+        let first = self.error.is_none();
+        self.give(same & first);
+    }
+
+    /// The run met this error, and none before.
+    fn fail_once(&mut self, error: DecodeError) {
+        self.same &= self.error.is_none();
+        self.error = Some(error);
+    }
+
     /// The run, which is wrong where the list is not empty in the end.
     fn with_none_in(self, is_empty: bool) -> Run {
         let same = self.same && is_empty;
@@ -122,6 +145,14 @@ impl Run {
     /// The run that ended so.
     fn ended(self, error: Option<DecodeError>) -> Run {
         Run { error, ..self }
+    }
+
+    /// The error by which it ended, if that tells want of memory.
+    pub fn want_of_memory(&self) -> Option<DecodeError> {
+        match self.error {
+            Some(error) if error.kind == DecodeErrorKind::OutOfMemory => Some(error),
+            _ => None,
+        }
     }
 
     /// The answer, beside that of a run that met no refusal.
@@ -284,29 +315,39 @@ impl<'b> Reference<'b> {
             Reader::Borrowed => self.run_borrowed(decoder),
             Reader::Frames => self.run_frames(decoder),
             Reader::Events => self.run_events(decoder),
-            Reader::AllOwned => match all_owned(decoder) {
-                Ok(frames) => given(frames.len(), frames == self.owned),
-                Err(error) => failed(error),
-            },
-            Reader::AllBorrowed => match all_borrowed(decoder) {
-                Ok(frames) => given(frames.len(), frames == self.borrowed),
-                Err(error) => failed(error),
-            },
-            Reader::Sink => {
-                let mut sink = Comparing::with(&self.borrowed);
-                match show(decoder, &mut sink) {
-                    Err(TryForEachError::Decode(error)) => sink.run.ended(Some(error)),
-                    _ => sink.run,
-                }
-            }
-            Reader::Visitor => {
-                let mut visitor = Comparing::with(&self.borrowed);
-                let error = visit(decoder, &mut visitor).err();
-                visitor.run.ended(error)
-            }
+            Reader::AllOwned => self.run_all_owned(decoder),
+            Reader::AllBorrowed => self.run_all_borrowed(decoder),
+            Reader::Sink => self.run_sink(decoder),
+            Reader::Visitor => self.run_visitor(decoder),
             Reader::Into => self.run_into(decoder),
             Reader::RefInto => self.run_ref_into(decoder),
         }
+    }
+
+    fn run_all_owned(&self, decoder: &mut Decoder<'b>) -> Run {
+        match all_owned(decoder) {
+            Ok(frames) => given(frames.len(), frames == self.owned),
+            Err(error) => failed(error),
+        }
+    }
+
+    fn run_all_borrowed(&self, decoder: &mut Decoder<'b>) -> Run {
+        match all_borrowed(decoder) {
+            Ok(frames) => given(frames.len(), frames == self.borrowed),
+            Err(error) => failed(error),
+        }
+    }
+
+    fn run_sink(&self, decoder: &mut Decoder<'b>) -> Run {
+        let mut sink = Comparing::with(&self.borrowed);
+        let error = error_of(show(decoder, &mut sink));
+        sink.run.ended(error)
+    }
+
+    fn run_visitor(&self, decoder: &mut Decoder<'b>) -> Run {
+        let mut visitor = Comparing::with(&self.borrowed);
+        let error = visit(decoder, &mut visitor).err();
+        visitor.run.ended(error)
     }
 
     /// Events whose values are put into one list, which is empty where none is given.
@@ -395,13 +436,10 @@ impl<'b> Reference<'b> {
             match step(decoder) {
                 None => break,
                 Some(Ok(frame)) => {
-                    let same = run.error.is_none() && self.borrowed.get(run.given) == Some(&frame);
-                    run.give(same);
+                    let same = self.borrowed.get(run.given) == Some(&frame);
+                    run.give_before_error(same);
                 }
-                Some(Err(error)) => {
-                    run.same = run.same && run.error.is_none();
-                    run.error = Some(error);
-                }
+                Some(Err(error)) => run.fail_once(error),
             }
         }
         run
@@ -416,16 +454,20 @@ impl<'b> Reference<'b> {
                 Some(Ok(frame)) => {
                     over = after_event(&self.borrowed, over);
                     let same = frame_before(&self.borrowed, over) == Some(&frame);
-                    let first = run.error.is_none();
-                    run.give(same && first);
+                    run.give_before_error(same);
                 }
-                Some(Err(error)) => {
-                    run.same = run.same && run.error.is_none();
-                    run.error = Some(error);
-                }
+                Some(Err(error)) => run.fail_once(error),
             }
         }
         run
+    }
+}
+
+/// The error that a sink's reader told, if it did.
+fn error_of(answer: Result<(), TryForEachError<()>>) -> Option<DecodeError> {
+    match answer {
+        Err(TryForEachError::Decode(error)) => Some(error),
+        _ => None,
     }
 }
 

@@ -1,18 +1,126 @@
-//! Calls of each kind, and the calls that a trace holds.
+//! Calls of each kind.
 
-use crate::asks::Ask;
-use dial9_trace_format::codec::{PoolEntry, StackPoolEntry, WireTypeId};
-use dial9_trace_format::decoder::{DecodedFrame, Decoder};
+use dial9_trace_format::codec::{PoolEntry, StackPoolEntry};
 use dial9_trace_format::encoder::{Call, Schema};
-use dial9_trace_format::schema::{FieldAnnotation, FieldDef, SchemaEntry, SchemaRegistry};
-use dial9_trace_format::types::{
-    F64Bits, FieldType, FieldValue, InternedStackFrames, InternedString, StackFrames,
-};
+use dial9_trace_format::schema::{FieldAnnotation, FieldDef, SchemaEntry};
+use dial9_trace_format::types::{FieldType, FieldValue, StackFrames};
 use std::alloc::{AllocError, Global};
-use trace_samples::events::{
-    Annotated, ByName, Dynamic, FastSlot, LastSlot, Numbers, OptionalNumbers, OptionalTexts,
-    Options, Poll, Stacks, Texts, Wide,
-};
+
+/// The bytes of a list (docs/FORMAT.md, "Values"): a map of a truth value to a list of a number and a text, bytes, a map
+/// of texts, and a stack.
+const NESTED: &[u8] = b"\x04\0\0\0\
+    \x0F\x01\0\0\0\x03\x01\x0E\x02\0\0\0\x09\xAC\x02\x04\x05\0\0\0inner\
+    \x05\x02\0\0\0\xFF\0\
+    \x0A\x01\0\0\0\x03\0\0\0key\x05\0\0\0value\
+    \x08\x03\0\0\0\x01\0\0\0\0\0\0\0\x02\0\0\0\0\0\0\0\x03\0\0\0\0\0\0\0";
+
+/// A list that holds a value of each kind that holds others.
+pub fn nested(alloc: Global) -> Result<FieldValue, AllocError> {
+    match FieldValue::decode(alloc, FieldType::DynamicList, NESTED)? {
+        Some((value, _rest)) => Ok(value),
+        None => Err(AllocError),
+    }
+}
+
+/// A list of calls.
+#[derive(Clone, Copy)]
+pub enum Sample {
+    Schemas,
+    Pools,
+    Many,
+}
+
+/// All of them.
+pub const SAMPLES: [Sample; 3] = [Sample::Schemas, Sample::Pools, Sample::Many];
+
+/// The calls of a list.
+pub fn calls_of(alloc: Global, sample: Sample) -> Result<Vec<Call>, AllocError> {
+    match sample {
+        Sample::Schemas => with_schemas(alloc),
+        Sample::Pools => with_pools(alloc),
+        Sample::Many => many(alloc),
+    }
+}
+
+/// A call with a schema.
+#[derive(Clone, Copy)]
+enum Given {
+    Register(Of),
+    Write(Of, u64, Values),
+}
+
+/// Which schema it is.
+#[derive(Clone, Copy)]
+enum Of {
+    /// One that several calls share.
+    Plain,
+    /// One of the same name.
+    Other,
+    /// One with annotations.
+    Noted,
+    /// One with fields of many types.
+    Wide,
+}
+
+/// Which values it has.
+#[derive(Clone, Copy)]
+enum Values {
+    Nothing,
+    Flag,
+    Number(u64),
+    Wide,
+}
+
+/// Accepted calls, and each kind of refusal that a list of calls meets.
+const WITH_SCHEMAS: [Given; 10] = [
+    Given::Register(Of::Plain),
+    Given::Register(Of::Plain),
+    Given::Write(Of::Plain, 1_000, Values::Number(42)),
+    Given::Write(Of::Plain, 1_001, Values::Nothing),
+    Given::Write(Of::Plain, 1_001, Values::Flag),
+    Given::Register(Of::Other),
+    Given::Write(Of::Plain, 20_000_000_000, Values::Number(1)),
+    Given::Write(Of::Noted, 5, Values::Number(1)),
+    Given::Write(Of::Wide, 6, Values::Wide),
+    Given::Write(Of::Plain, 7, Values::Number(u64::MAX)),
+];
+
+fn with_schemas(alloc: Global) -> Result<Vec<Call>, AllocError> {
+    let plain = schema_of(alloc, "Ev", &[FieldType::Varint])?;
+    let mut calls = Vec::new(alloc);
+    for given in WITH_SCHEMAS {
+        calls.push(call_of(alloc, &plain, given)?)?;
+    }
+    Ok(calls)
+}
+
+fn call_of(alloc: Global, plain: &Schema, given: Given) -> Result<Call, AllocError> {
+    match given {
+        Given::Register(of) => Ok(Call::Register(schema(alloc, plain, of)?)),
+        Given::Write(of, time, values) => {
+            let schema = schema(alloc, plain, of)?;
+            Ok(Call::WriteEvent(schema, time, values_of(alloc, values)?))
+        }
+    }
+}
+
+fn schema(alloc: Global, plain: &Schema, of: Of) -> Result<Schema, AllocError> {
+    match of {
+        Of::Plain => plain.clone(),
+        Of::Other => schema_of(alloc, "Ev", &[FieldType::Bool]),
+        Of::Noted => noted(alloc),
+        Of::Wide => schema_of(alloc, "Many", &WIDE),
+    }
+}
+
+fn values_of(alloc: Global, values: Values) -> Result<Vec<FieldValue>, AllocError> {
+    match values {
+        Values::Nothing => Ok(Vec::new(alloc)),
+        Values::Flag => Ok(vec![in alloc; FieldValue::Bool(true)]?),
+        Values::Number(number) => Ok(vec![in alloc; FieldValue::Varint(number)]?),
+        Values::Wide => wide_values(alloc),
+    }
+}
 
 /// A schema of this name with fields of these types.
 fn schema_of(alloc: Global, name: &str, types: &[FieldType]) -> Result<Schema, AllocError> {
@@ -32,315 +140,97 @@ fn noted(alloc: Global) -> Result<Schema, AllocError> {
     Schema::from_entry(alloc, entry)
 }
 
-/// A list that holds a value of each kind that holds others.
-pub fn nested(alloc: Global) -> Result<FieldValue, AllocError> {
-    let items = vec![in alloc;
-        FieldValue::Varint(300),
-        FieldValue::string(alloc, "inner")?,
-    ]?;
-    let pairs = vec![in alloc; (FieldValue::Bool(true), FieldValue::List(items))]?;
-    let text = (
-        Vec::from_slice(alloc, b"key")?,
-        Vec::from_slice(alloc, b"value")?,
-    );
-    let mut values = vec![in alloc; FieldValue::Map(pairs)]?;
-    values.push(FieldValue::Bytes(Vec::from_slice(alloc, b"\xff\x00")?))?;
-    values.push(FieldValue::StringMap(vec![in alloc; text]?))?;
-    values.push(FieldValue::StackFrames(StackFrames::from_slice(alloc, &[1, 2, 3])?))?;
-    Ok(FieldValue::List(values))
-}
-
-/// Calls with schemas: accepted ones, and each kind of refusal that a list of calls meets.
-pub fn with_schemas(alloc: Global) -> Result<Vec<Call>, AllocError> {
-    let plain = schema_of(alloc, "Ev", &[FieldType::Varint])?;
-    let other = schema_of(alloc, "Ev", &[FieldType::Bool])?;
-    let one = |number: u64| vec![in alloc; FieldValue::Varint(number)];
-    let mut calls = vec![in alloc; Call::Register(plain.clone()?)]?;
-    calls.push(Call::Register(plain.clone()?))?;
-    calls.push(Call::WriteEvent(plain.clone()?, 1_000, one(42)?))?;
-    calls.push(Call::WriteEvent(plain.clone()?, 1_001, Vec::new(alloc)))?;
-    let flag = vec![in alloc; FieldValue::Bool(true)]?;
-    calls.push(Call::WriteEvent(plain.clone()?, 1_001, flag))?;
-    calls.push(Call::Register(other))?;
-    calls.push(Call::WriteEvent(plain.clone()?, 20_000_000_000, one(1)?))?;
-    calls.push(Call::WriteEvent(noted(alloc)?, 5, one(1)?))?;
-    calls.push(Call::WriteEvent(wide(alloc)?, 6, wide_values(alloc)?))?;
-    calls.push(Call::WriteEvent(plain, 7, one(u64::MAX)?))?;
-    Ok(calls)
-}
-
-/// A schema with fields of many types.
-fn wide(alloc: Global) -> Result<Schema, AllocError> {
-    schema_of(
-        alloc,
-        "Many",
-        &[
-            FieldType::DynamicList,
-            FieldType::OptionalString,
-            FieldType::StringMap,
-            FieldType::U16,
-            FieldType::StackFrames,
-            FieldType::OptionalDynamicMap,
-        ],
-    )
-}
+/// Many types.
+const WIDE: [FieldType; 6] = [
+    FieldType::DynamicList,
+    FieldType::OptionalString,
+    FieldType::StringMap,
+    FieldType::U16,
+    FieldType::StackFrames,
+    FieldType::OptionalDynamicMap,
+];
 
 /// Values of these types.
 fn wide_values(alloc: Global) -> Result<Vec<FieldValue>, AllocError> {
-    let mut values = vec![in alloc; nested(alloc)?]?;
-    values.push(FieldValue::string(alloc, "an optional text")?)?;
-    values.push(FieldValue::StringMap(Vec::new(alloc)))?;
-    values.push(FieldValue::Varint(65_535))?;
-    values.push(FieldValue::StackFrames(StackFrames::from_slice(alloc, &[1])?))?;
-    values.push(FieldValue::None)?;
+    let mut values = Vec::new(alloc);
+    for field_type in WIDE {
+        values.push(value_of(alloc, field_type)?)?;
+    }
     Ok(values)
 }
+
+/// A value of one of these types.
+fn value_of(alloc: Global, field_type: FieldType) -> Result<FieldValue, AllocError> {
+    match field_type {
+        FieldType::DynamicList => nested(alloc),
+        FieldType::OptionalString => FieldValue::string(alloc, "an optional text"),
+        FieldType::StringMap => Ok(FieldValue::StringMap(Vec::new(alloc))),
+        FieldType::U16 => Ok(FieldValue::Varint(65_535)),
+        FieldType::StackFrames => match StackFrames::from_slice(alloc, &[1]) {
+            Ok(frames) => Ok(FieldValue::StackFrames(frames)),
+            Err(error) => Err(error),
+        },
+        _ => Ok(FieldValue::None),
+    }
+}
+
+/// Texts that are interned.
+const TEXTS: [&str; 4] = [
+    "hello",
+    "hello",
+    "a longer text that is none of the others",
+    "",
+];
 
 /// Calls with pools.
 pub fn with_pools(alloc: Global) -> Result<Vec<Call>, AllocError> {
     let mut calls = Vec::new(alloc);
-    for text in [
-        "hello",
-        "hello",
-        "a longer text that is none of the others",
-        "",
-    ] {
+    for text in TEXTS {
         calls.push(Call::InternString(String::from_str(alloc, text)?))?;
     }
     for addresses in [&[1, 2, 3][..], &[1, 2, 3], &[], &[7; 20]] {
         calls.push(Call::InternStack(Vec::from_slice(alloc, addresses)?))?;
     }
-    let text = PoolEntry {
-        pool_id: 9,
-        bytes: Vec::from_slice(alloc, b"no \xff text")?,
-    };
-    let empty = PoolEntry {
-        pool_id: 9,
-        bytes: Vec::new(alloc),
-    };
-    calls.push(Call::StringPool(vec![in alloc; text, empty]?))?;
+    calls.push(text_pool(alloc)?)?;
+    calls.push(stack_pool(alloc)?)?;
+    Ok(calls)
+}
+
+/// A pool of a text that is not UTF-8, and of an empty one under the same id.
+fn text_pool(alloc: Global) -> Result<Call, AllocError> {
+    let mut entries = Vec::new(alloc);
+    for bytes in [&b"no \xff text"[..], b""] {
+        entries.push(PoolEntry {
+            pool_id: 9,
+            bytes: Vec::from_slice(alloc, bytes)?,
+        })?;
+    }
+    Ok(Call::StringPool(entries))
+}
+
+/// A pool of one stack.
+fn stack_pool(alloc: Global) -> Result<Call, AllocError> {
     let stack = StackPoolEntry {
         pool_id: 4_000_000_000,
         frames: Vec::from_slice(alloc, &[5, 6])?,
     };
-    calls.push(Call::StackPool(vec![in alloc; stack]?))?;
-    Ok(calls)
+    Ok(Call::StackPool(vec![in alloc; stack]?))
 }
 
 /// Many calls that are new each time, so that each table grows more than once.
-pub fn many(alloc: Global) -> Result<Vec<Call>, AllocError> {
+fn many(alloc: Global) -> Result<Vec<Call>, AllocError> {
     let mut calls = Vec::new(alloc);
     for number in 0..16u64 {
-        let name = format!(in alloc; "S{number}")?;
-        calls.push(Call::Register(schema_of(alloc, &name, &[FieldType::Bool])?))?;
-        calls.push(Call::InternString(name))?;
-        calls.push(Call::InternStack(vec![in alloc; number]?))?;
+        push_new(alloc, number, &mut calls)?;
     }
     Ok(calls)
 }
 
-/// Events of types, each with what it takes to be written the first time and once more.
-pub fn of_types(alloc: Global) -> Result<Vec<Ask>, AllocError> {
-    let mut asks = vec![in alloc; Ask::FastSlot(FastSlot { time: 1_000_000 })]?;
-    for time in [1_000_001, 1_000_002u64] {
-        asks.push(Ask::FastSlot(FastSlot { time }))?;
-        asks.push(Ask::LastSlot(LastSlot { time, number: 9 }))?;
-        asks.push(Ask::Annotated(Annotated { time, load: 9 }))?;
-        asks.push(Ask::ByName(ByName { time }))?;
-        asks.push(Ask::Poll(poll(time, Some(7))))?;
-        asks.push(Ask::Poll(poll(time, None)))?;
-        asks.push(Ask::Numbers(numbers(time)))?;
-        asks.push(Ask::Wide(wide_event(time)))?;
-    }
-    asks.push(Ask::Flush)?;
-    Ok(asks)
-}
-
-/// The same of types whose values own memory.
-pub fn of_types_that_own(alloc: Global) -> Result<Vec<Ask>, AllocError> {
-    let mut asks = Vec::new(alloc);
-    for time in [3, 20_000_000u64] {
-        asks.push(Ask::Texts(texts(alloc, time)?))?;
-        asks.push(Ask::Stacks(stacks(alloc, time)?))?;
-        asks.push(Ask::Dynamic(Dynamic {
-            time,
-            items: nested(alloc)?,
-            table: FieldValue::Map(Vec::new(alloc)),
-        }))?;
-        asks.push(Ask::Options(options(alloc, time)?))?;
-    }
-    let misfit = Dynamic {
-        time: 4,
-        items: nested(alloc)?,
-        table: FieldValue::None,
-    };
-    asks.push(Ask::Dynamic(misfit))?;
-    asks.push(Ask::Flush)?;
-    Ok(asks)
-}
-
-fn poll(time: u64, cpu: Option<u32>) -> Poll {
-    Poll {
-        time,
-        worker: 3,
-        cpu,
-        label: InternedString::from_raw(0),
-    }
-}
-
-fn numbers(time: u64) -> Numbers {
-    Numbers {
-        time,
-        byte: 1,
-        short: 2,
-        word: 3,
-        long: 4,
-        signed: -5,
-        real: F64Bits(6),
-        flag: true,
-    }
-}
-
-fn wide_event(time: u64) -> Wide {
-    Wide {
-        time,
-        v0: 0,
-        v1: 1,
-        v2: 2,
-        v3: 3,
-        v4: 4,
-        v5: 5,
-        v6: 6,
-        v7: 7,
-        v8: 8,
-        v9: 9,
-        v10: 10,
-        v11: 11,
-        v12: 12,
-        v13: 13,
-        v14: 14,
-        v15: 15,
-        v16: 16,
-        v17: 17,
-        v18: 18,
-        v19: 19,
-    }
-}
-
-fn texts(alloc: Global, time: u64) -> Result<Texts, AllocError> {
-    let pair = (
-        String::from_str(alloc, "key")?,
-        String::from_str(alloc, "value")?,
-    );
-    Ok(Texts {
-        time,
-        text: String::from_str(alloc, "some text of some length")?,
-        blob: Vec::from_slice(alloc, b"\xff\xfe")?,
-        pairs: vec![in alloc; pair]?,
-    })
-}
-
-fn stacks(alloc: Global, time: u64) -> Result<Stacks, AllocError> {
-    Ok(Stacks {
-        time,
-        frames: StackFrames::from_slice(alloc, &[7, 8])?,
-        stack: InternedStackFrames::from_raw(0),
-    })
-}
-
-fn options(alloc: Global, time: u64) -> Result<Options, AllocError> {
-    let pair = (
-        String::from_str(alloc, "key")?,
-        String::from_str(alloc, "value")?,
-    );
-    Ok(Options {
-        time,
-        numbers: OptionalNumbers {
-            byte: Some(1),
-            short: None,
-            word: Some(3),
-            long: Some(4),
-            signed: None,
-            real: Some(F64Bits(6)),
-            flag: Some(true),
-        },
-        texts: OptionalTexts {
-            text: Some(String::from_str(alloc, "a text")?),
-            blob: None,
-            frames: Some(StackFrames::from_slice(alloc, &[1])?),
-            label: Some(InternedString::from_raw(0)),
-            stack: None,
-            pairs: Some(vec![in alloc; pair]?),
-        },
-    })
-}
-
-/// The calls that would write the frames of a trace again, and intern its texts and stacks.
-pub fn calls_of_trace(alloc: Global, bytes: &[u8]) -> Result<Vec<Call>, AllocError> {
-    let mut calls = Vec::new(alloc);
-    let Some(mut decoder) = Decoder::new(alloc, bytes) else {
-        return Ok(calls);
-    };
-    for _ in 0..bytes.len() {
-        let frame = match decoder.next_frame() {
-            Ok(Some(frame)) => frame,
-            _ => break,
-        };
-        push_calls(alloc, decoder.registry(), frame, &mut calls)?;
-    }
-    Ok(calls)
-}
-
-/// Appends the calls of a frame that was read last, by a decoder with this registry.
-fn push_calls(
-    alloc: Global,
-    registry: &SchemaRegistry,
-    frame: DecodedFrame,
-    calls: &mut Vec<Call>,
-) -> Result<(), AllocError> {
-    match frame {
-        DecodedFrame::Schema(entry) => {
-            calls.push(Call::Register(Schema::from_entry(alloc, entry)?))?;
-        }
-        DecodedFrame::Event {
-            type_id,
-            timestamp_ns,
-            values,
-        } => {
-            if let Some(schema) = schema_under(alloc, registry, type_id)? {
-                calls.push(Call::WriteEvent(schema, timestamp_ns, values))?;
-            }
-        }
-        DecodedFrame::StringPool(entries) => {
-            for entry in &entries {
-                if let Ok(text) = str::from_utf8(&entry.bytes) {
-                    calls.push(Call::InternString(String::from_str(alloc, text)?))?;
-                }
-            }
-            calls.push(Call::StringPool(entries))?;
-        }
-        DecodedFrame::StackPool(entries) => {
-            for entry in &entries {
-                calls.push(Call::InternStack(Vec::from_slice(alloc, &entry.frames)?))?;
-            }
-            calls.push(Call::StackPool(entries))?;
-        }
-        DecodedFrame::SchemaAnnotations {
-            type_id: _,
-            annotations: _annotations,
-        } => {}
-    }
+fn push_new(alloc: Global, number: u64, calls: &mut Vec<Call>) -> Result<(), AllocError> {
+    let name = format!(in alloc; "S{number}")?;
+    let schema = schema_of(alloc, &name, &[FieldType::Bool])?;
+    calls.push(Call::Register(schema))?;
+    calls.push(Call::InternString(name))?;
+    calls.push(Call::InternStack(vec![in alloc; number]?))?;
     Ok(())
-}
-
-/// The schema that the registry has under a wire id.
-fn schema_under(
-    alloc: Global,
-    registry: &SchemaRegistry,
-    id: WireTypeId,
-) -> Result<Option<Schema>, AllocError> {
-    match registry.get(id) {
-        Some(entry) => Ok(Some(Schema::from_entry(alloc, entry.clone(alloc)?)?)),
-        None => Ok(None),
-    }
 }

@@ -13,17 +13,24 @@ pub trait Trial {
     fn seen(&self, alloc: Global, number: u32) -> Result<Seen, AllocError>;
 }
 
-/// Makes the call with the first growth refused, with the second, and so on, until it meets no refusal.
-pub fn sweep<T: Trial>(alloc: Global, trial: &T, counts: &mut Counts) -> Result<(), AllocError> {
+/// What is seen where there is no memory for what is not refused.
+pub const LACKING: Seen = Seen {
+    refused: false,
+    answer: Answer::Other,
+    right: false,
+};
+
+/// Makes the call with the first growth refused, with the second, and so on, until it meets no refusal. Where there is
+/// no memory for what is not refused, that is counted as wrong.
+pub fn sweep<T: Trial>(alloc: Global, trial: &T, counts: &mut Counts) {
     for number in 1..MOST {
-        let seen = trial.seen(alloc, number)?;
+        let seen = trial.seen(alloc, number).unwrap_or(LACKING);
         counts.add(verdict_of(seen));
         if !seen.refused {
-            return Ok(());
+            return;
         }
     }
     counts.add(Verdict::Wrong);
-    Ok(())
 }
 
 /// What was seen of a call that answers a value or `AllocError`, beside what it is to answer.

@@ -1,10 +1,11 @@
 //! The calls that are tried, by kinds.
 
-use crate::asks::{Ask, ask_of};
+use crate::asks::{Ask, asks_of};
 use crate::calls::{all_owned, decoder_of};
 use crate::copies::sweep_copies;
 use crate::dumping::{DUMPS, dump_of};
-use crate::encoding::{Hashing, InArray, InList, turn_of};
+use crate::encoding::{Hashing, InArray, InList, Turn, turn_of};
+use crate::events::{of_types, of_types_that_own};
 use crate::feeding::{Feeding, Form};
 use crate::free::{OfDecoders, OfEncoders, OfRegistries, OfValues, sweep_events};
 use crate::lists::list_of;
@@ -15,12 +16,11 @@ use crate::resolving::{sweep_fed, sweep_shown};
 use crate::resuming::after_trace;
 use crate::rows::sweep_row;
 use crate::runs::{READERS, Reference, reference_of};
-use crate::samples::{
-    calls_of_trace, many, nested, of_types, of_types_that_own, with_pools, with_schemas,
-};
+use crate::samples::{SAMPLES, calls_of, nested, with_pools};
 use crate::sweep::sweep;
 use crate::values::{sweep_value, sweep_values};
 use crate::verdict::{Counts, Verdict};
+use crate::written::calls_of_trace;
 use dial9_trace_format::encoder::Call;
 use std::alloc::{AllocError, Global};
 use std::hash::RandomState;
@@ -87,23 +87,29 @@ impl Tallies {
 
     /// Tries calls of each kind that no trace is needed for.
     pub fn try_samples(&mut self, alloc: Global) -> Result<(), AllocError> {
-        sweep_row(alloc, &mut self.row)?;
+        sweep_row(alloc, &mut self.row);
         self.try_asks(alloc, of_types(alloc)?)?;
         self.try_asks(alloc, of_types_that_own(alloc)?)?;
-        for calls in [with_schemas(alloc)?, with_pools(alloc)?, many(alloc)?] {
-            self.try_calls(alloc, calls)?;
+        for sample in SAMPLES {
+            self.try_calls(alloc, calls_of(alloc, sample)?)?;
         }
-        sweep(alloc, &NewEncoder::OverList, &mut self.list)?;
-        sweep(alloc, &NewEncoder::To, &mut self.list)?;
-        sweep(alloc, &NewEncoder::WithHasher(self.state), &mut self.seeded)?;
+        self.try_new(alloc);
+        sweep_value(alloc, &nested(alloc)?, &mut self.values);
+        sweep(alloc, &OfValues, &mut self.free);
+        Ok(())
+    }
+
+    /// Tries what makes encoders, and the fields of a type.
+    fn try_new(&mut self, alloc: Global) {
+        sweep(alloc, &NewEncoder::OverList, &mut self.list);
+        sweep(alloc, &NewEncoder::To, &mut self.list);
+        sweep(alloc, &NewEncoder::WithHasher(self.state), &mut self.seeded);
         sweep(
             alloc,
             &NewEncoder::ToWithHasher(self.state),
             &mut self.seeded,
-        )?;
-        sweep(alloc, &FieldsOfType, &mut self.schemas)?;
-        sweep_value(alloc, &nested(alloc)?, &mut self.values)?;
-        sweep(alloc, &OfValues, &mut self.free)
+        );
+        sweep(alloc, &FieldsOfType, &mut self.schemas);
     }
 
     /// Tries the calls that write a worked trace, whose bytes and ends are known, and its bytes.
@@ -111,17 +117,12 @@ impl Tallies {
         let bytes = bytes_of(worked);
         let mut start: usize = 0;
         for (steps, ends) in parts_of(alloc, worked)?.into_iter().zip(ends_of(worked)) {
-            let mut asks = Vec::new(alloc);
-            for step in steps {
-                asks.push(ask_of(step))?;
-            }
-            let plan = plan_of(alloc, asks)?;
-            let end = start.saturating_add(plan.bytes.len());
-            if bytes.get(start..end) != Some(plan.bytes.as_slice()) || ends.last() != Some(&end) {
+            let plan = plan_of(alloc, asks_of(alloc, steps)?)?;
+            if !is_part(&plan, bytes, start, ends) {
                 self.array.add(Verdict::Wrong);
             }
-            start = end;
-            self.try_plan(alloc, &plan)?;
+            start = start.saturating_add(plan.bytes.len());
+            self.try_plan(alloc, &plan);
         }
         self.try_bytes(alloc, bytes)
     }
@@ -135,60 +136,62 @@ impl Tallies {
     /// Tries each of these calls, alone and as a list.
     fn try_calls(&mut self, alloc: Global, calls: Vec<Call>) -> Result<(), AllocError> {
         let listed = list_of(alloc, calls)?;
-        sweep(alloc, &listed, &mut self.lists)?;
-        sweep(alloc, &OfEncoders(&listed.calls), &mut self.free)?;
-        let mut asks = Vec::new(alloc);
-        for call in listed.calls {
-            asks.push(Ask::Call(call))?;
-        }
-        self.try_asks(alloc, asks)
+        sweep(alloc, &listed, &mut self.lists);
+        sweep(alloc, &OfEncoders(&listed.calls), &mut self.free);
+        self.try_asks(alloc, asks_of_calls(alloc, listed.calls)?)
     }
 
     /// Tries each of these calls.
     fn try_asks(&mut self, alloc: Global, asks: Vec<Ask>) -> Result<(), AllocError> {
-        self.try_plan(alloc, &plan_of(alloc, asks)?)
+        self.try_plan(alloc, &plan_of(alloc, asks)?);
+        Ok(())
     }
 
-    /// Tries each call of a plan, by hashes of both kinds: over a list, and over an array where that has room for all.
-    fn try_plan(&mut self, alloc: Global, plan: &Plan) -> Result<(), AllocError> {
+    /// Tries each call of a plan, by hashes of both kinds.
+    fn try_plan(&mut self, alloc: Global, plan: &Plan) {
         for index in 0..plan.calls.len() {
             if let Some(turn) = turn_of(plan, index, Hashing::Fixed) {
-                sweep(alloc, &InList(turn), &mut self.list)?;
-                if plan.bytes.len() <= ROOM {
-                    sweep(alloc, &InArray(turn), &mut self.array)?;
-                }
+                try_turn(alloc, turn, &mut self.list, &mut self.array);
             }
             if let Some(turn) = turn_of(plan, index, Hashing::Seeded(self.state)) {
-                sweep(alloc, &InList(turn), &mut self.seeded)?;
-                if plan.bytes.len() <= ROOM {
-                    sweep(alloc, &InArray(turn), &mut self.seeded)?;
-                }
+                try_seeded(alloc, turn, &mut self.seeded);
             }
         }
-        Ok(())
     }
 
     /// Tries all that reads bytes.
     fn try_bytes(&mut self, alloc: Global, bytes: &[u8]) -> Result<(), AllocError> {
         for dump in DUMPS {
-            sweep(alloc, &dump_of(alloc, bytes, dump)?, &mut self.dumps)?;
+            sweep(alloc, &dump_of(alloc, bytes, dump)?, &mut self.dumps);
         }
-        let Some(reference) = reference_of(alloc, bytes)? else {
-            return Ok(());
-        };
-        self.try_readers(alloc, &reference)?;
+        match reference_of(alloc, bytes)? {
+            Some(reference) => self.try_read(alloc, &reference),
+            None => Ok(()),
+        }
+    }
+
+    /// Tries all that reads the bytes of a trace, and copies what it gives.
+    fn try_read(&mut self, alloc: Global, reference: &Reference<'_>) -> Result<(), AllocError> {
+        let bytes = reference.bytes;
+        self.try_readers(alloc, reference)?;
         sweep_shown(alloc, bytes, &mut self.resolved)?;
         sweep_fed(alloc, bytes, &mut self.resolved)?;
-        sweep_copies(alloc, &reference, &mut self.copies)?;
-        sweep_values(alloc, &reference.owned, &mut self.values)?;
-        sweep(alloc, &OfDecoders(bytes), &mut self.free)?;
+        sweep_copies(alloc, reference, &mut self.copies);
+        sweep_values(alloc, &reference.owned, &mut self.values);
+        sweep(alloc, &OfDecoders(bytes), &mut self.free);
         sweep_events(alloc, bytes, &mut self.free)?;
+        self.try_resumed(alloc, bytes)?;
+        self.try_registry(alloc, bytes)
+    }
+
+    /// Has an encoder go on after a trace.
+    fn try_resumed(&mut self, alloc: Global, bytes: &[u8]) -> Result<(), AllocError> {
         for hashing in [Hashing::Fixed, Hashing::Seeded(self.state)] {
             if let Some(trial) = after_trace(alloc, bytes, with_pools(alloc)?, hashing)? {
-                sweep(alloc, &trial, &mut self.resumed)?;
+                sweep(alloc, &trial, &mut self.resumed);
             }
         }
-        self.try_registry(alloc, bytes)
+        Ok(())
     }
 
     /// Has each reader read a trace, whole and in two pieces.
@@ -200,7 +203,7 @@ impl Tallies {
                 reader,
                 whole,
             };
-            sweep(alloc, &trial, &mut self.readers)?;
+            sweep(alloc, &trial, &mut self.readers);
         }
         for form in [Form::Feed, Form::Push] {
             let place = reference.bytes.len() / 2;
@@ -209,7 +212,7 @@ impl Tallies {
                 form,
                 place,
             };
-            sweep(alloc, &trial, &mut self.fed)?;
+            sweep(alloc, &trial, &mut self.fed);
         }
         Ok(())
     }
@@ -218,7 +221,39 @@ impl Tallies {
     fn try_registry(&mut self, alloc: Global, bytes: &[u8]) -> Result<(), AllocError> {
         let mut decoder = decoder_of(alloc, bytes)?;
         let _ = all_owned(&mut decoder);
-        sweep(alloc, &OfRegistries(decoder.registry()), &mut self.free)?;
-        sweep_registry(alloc, decoder.registry(), &mut self.schemas)
+        sweep(alloc, &OfRegistries(decoder.registry()), &mut self.free);
+        sweep_registry(alloc, decoder.registry(), &mut self.schemas);
+        Ok(())
+    }
+}
+
+/// Whether the bytes of the plan stand at this place, and end at the last of these.
+fn is_part(plan: &Plan, bytes: &[u8], start: usize, ends: &[usize]) -> bool {
+    let end = start.saturating_add(plan.bytes.len());
+    let same = bytes.get(start..end) == Some(plan.bytes.as_slice());
+    same & (ends.last() == Some(&end))
+}
+
+fn asks_of_calls(alloc: Global, calls: Vec<Call>) -> Result<Vec<Ask>, AllocError> {
+    let mut asks = Vec::new(alloc);
+    for call in calls {
+        asks.push(Ask::Call(call))?;
+    }
+    Ok(asks)
+}
+
+/// Tries a call of a plan over a list, and over an array where that has room for all.
+fn try_turn(alloc: Global, turn: Turn<'_>, list: &mut Counts, array: &mut Counts) {
+    sweep(alloc, &InList(turn), list);
+    if turn.fits(ROOM) {
+        sweep(alloc, &InArray(turn), array);
+    }
+}
+
+/// The same of both in one count.
+fn try_seeded(alloc: Global, turn: Turn<'_>, counts: &mut Counts) {
+    sweep(alloc, &InList(turn), counts);
+    if turn.fits(ROOM) {
+        sweep(alloc, &InArray(turn), counts);
     }
 }

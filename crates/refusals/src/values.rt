@@ -2,7 +2,7 @@
 
 use crate::heap::{refuse, was_refused};
 use crate::sweep::{Trial, seen_of, sweep};
-use crate::verdict::{Answer, Counts, Seen};
+use crate::verdict::{Answer, Counts, Seen, Verdict};
 use dial9_trace_format::decoder::DecodedFrame;
 use dial9_trace_format::leb128::EncodeError;
 use dial9_trace_format::types::{EventEncoder, FieldType, FieldValue, FieldValueRef};
@@ -55,13 +55,24 @@ impl Trial for Encoded<'_> {
         let told = self.0.value.encode(alloc, &mut writer);
         let refused = was_refused(alloc);
         let answer = answer_of(told);
-        let again = answer != Answer::Memory
-            || writer.bytes().is_empty() && self.0.value.encode(alloc, &mut writer).is_ok();
+        let mut right = true;
+        if answer == Answer::Memory {
+            right = self.is_sent_now(alloc, &mut writer);
+        }
+        right &= writer.bytes() == self.0.bytes.as_slice();
         Ok(Seen {
             refused,
             answer,
-            right: again && writer.bytes() == self.0.bytes.as_slice(),
+            right,
         })
+    }
+}
+
+impl Encoded<'_> {
+    /// Whether nothing was sent, and the value is now.
+    fn is_sent_now(&self, alloc: Global, writer: &mut Told) -> bool {
+        let nothing = writer.bytes().is_empty();
+        self.0.value.encode(alloc, writer).is_ok() & nothing
     }
 }
 
@@ -76,11 +87,15 @@ impl Trial for Appended<'_> {
         let told = append(&mut out, self.0);
         let refused = was_refused(alloc);
         let answer = answer_of(told);
-        let again = answer != Answer::Memory || out.len() == 1 && append(&mut out, self.0).is_ok();
+        let mut right = true;
+        if answer == Answer::Memory {
+            right = (out.len() == 1) & append(&mut out, self.0).is_ok();
+        }
+        right &= out.strip_prefix(&[7]) == Some(self.0.bytes.as_slice());
         Ok(Seen {
             refused,
             answer,
-            right: again && out.strip_prefix(&[7]) == Some(self.0.bytes.as_slice()),
+            right,
         })
     }
 }
@@ -96,19 +111,26 @@ struct Decoded<'v>(&'v Spelled<'v>);
 impl Trial for Decoded<'_> {
     fn seen(&self, alloc: Global, number: u32) -> Result<Seen, AllocError> {
         refuse(alloc, number);
-        let answer = FieldValue::decode(alloc, self.0.field_type, &self.0.bytes);
-        let refused = was_refused(alloc);
-        let answer = match answer {
-            Ok(Some((value, rest))) if value == *self.0.value && rest.is_empty() => Answer::Same,
-            Ok(_) => Answer::Other,
-            Err(_) => Answer::Memory,
-        };
-        Ok(Seen {
-            refused,
-            answer,
-            right: true,
-        })
+        let answer = decodes(alloc, self.0);
+        Ok(seen_of(was_refused(alloc), answer, &true))
     }
+}
+
+/// Whether `FieldValue::decode` gives the value, and no byte is left.
+fn decodes(alloc: Global, spelled: &Spelled<'_>) -> Result<bool, AllocError> {
+    let given = FieldValue::decode(alloc, spelled.field_type, &spelled.bytes)?;
+    Ok(is_given(&given, spelled.value))
+}
+
+fn is_given(given: &Option<(FieldValue, &[u8])>, wanted: &FieldValue) -> bool {
+    match given {
+        Some(found) => is_whole(found, wanted),
+        None => false,
+    }
+}
+
+fn is_whole(found: &(FieldValue, &[u8]), wanted: &FieldValue) -> bool {
+    (found.0 == *wanted) & found.1.is_empty()
 }
 
 /// `FieldValueRef::decode`.
@@ -120,25 +142,42 @@ struct DecodedRef<'v> {
 
 impl Trial for DecodedRef<'_> {
     fn seen(&self, alloc: Global, number: u32) -> Result<Seen, AllocError> {
+        refuse(alloc, number);
+        let answer = self.decodes(alloc);
+        Ok(seen_of(was_refused(alloc), answer, &true))
+    }
+}
+
+impl DecodedRef<'_> {
+    /// Whether `FieldValueRef::decode` gives the value, which ends where the bytes end.
+    fn decodes(&self, alloc: Global) -> Result<bool, AllocError> {
         let Spelled {
             field_type,
             bytes,
             ..
         } = self.spelled;
-        refuse(alloc, number);
-        let answer = FieldValueRef::decode(alloc, *field_type, bytes, 0);
-        let refused = was_refused(alloc);
-        let answer = match answer {
-            Ok(Some((value, end))) if value == self.value && end == bytes.len() => Answer::Same,
-            Ok(_) => Answer::Other,
-            Err(_) => Answer::Memory,
-        };
-        Ok(Seen {
-            refused,
-            answer,
-            right: true,
-        })
+        let given = FieldValueRef::decode(alloc, *field_type, bytes, 0)?;
+        Ok(is_given_ref(&given, &self.value, bytes.len()))
     }
+}
+
+fn is_given_ref<'g, 'v>(
+    given: &'g Option<(FieldValueRef<'v>, usize)>,
+    wanted: &'g FieldValueRef<'v>,
+    end: usize,
+) -> bool {
+    match given {
+        Some(found) => is_whole_ref(found, wanted, end),
+        None => false,
+    }
+}
+
+fn is_whole_ref<'g, 'v>(
+    found: &'g (FieldValueRef<'v>, usize),
+    wanted: &'g FieldValueRef<'v>,
+    end: usize,
+) -> bool {
+    (found.0 == *wanted) & (found.1 == end)
 }
 
 /// `FieldValue::clone`.
@@ -154,39 +193,39 @@ impl Trial for Cloned<'_> {
 }
 
 /// Copies, writes and reads a value.
-pub fn sweep_value(
-    alloc: Global,
-    value: &FieldValue,
-    counts: &mut Counts,
-) -> Result<(), AllocError> {
-    sweep(alloc, &Cloned(value), counts)?;
-    let Some(spelled) = spelling_of(alloc, value)? else {
-        return Ok(());
-    };
-    sweep(alloc, &Appended(&spelled), counts)?;
-    sweep(alloc, &Decoded(&spelled), counts)?;
-    if let Some((value, _)) = FieldValueRef::decode(alloc, spelled.field_type, &spelled.bytes, 0)? {
-        let spelled = &spelled;
-        sweep(alloc, &DecodedRef { spelled, value }, counts)?;
+pub fn sweep_value(alloc: Global, value: &FieldValue, counts: &mut Counts) {
+    sweep(alloc, &Cloned(value), counts);
+    match spelling_of(alloc, value) {
+        Ok(Some(spelled)) => sweep_spelled(alloc, &spelled, counts),
+        Ok(None) => {}
+        Err(_) => counts.add(Verdict::Wrong),
+    }
+}
+
+fn sweep_spelled(alloc: Global, spelled: &Spelled<'_>, counts: &mut Counts) {
+    sweep(alloc, &Appended(spelled), counts);
+    sweep(alloc, &Decoded(spelled), counts);
+    match FieldValueRef::decode(alloc, spelled.field_type, &spelled.bytes, 0) {
+        Ok(Some((value, _))) => sweep(alloc, &DecodedRef { spelled, value }, counts),
+        Ok(None) => {}
+        Err(_) => counts.add(Verdict::Wrong),
     }
     if spelled.bytes.len() < ROOM {
-        sweep(alloc, &Encoded(&spelled), counts)?;
+        sweep(alloc, &Encoded(spelled), counts);
     }
-    Ok(())
 }
 
 /// The same of each value of the events.
-pub fn sweep_values(
-    alloc: Global,
-    frames: &[DecodedFrame],
-    counts: &mut Counts,
-) -> Result<(), AllocError> {
+pub fn sweep_values(alloc: Global, frames: &[DecodedFrame], counts: &mut Counts) {
     for frame in frames {
         if let DecodedFrame::Event { values, .. } = frame {
-            for value in values {
-                sweep_value(alloc, value, counts)?;
-            }
+            sweep_each(alloc, values, counts);
         }
     }
-    Ok(())
+}
+
+fn sweep_each(alloc: Global, values: &[FieldValue], counts: &mut Counts) {
+    for value in values {
+        sweep_value(alloc, value, counts);
+    }
 }
