@@ -6,8 +6,8 @@ use dial9_trace_format::schema::{FieldAnnotation, FieldDef, SchemaEntry};
 use dial9_trace_format::types::{FieldType, FieldValue, StackFrames};
 use std::alloc::{AllocError, Global};
 
-/// The bytes of a list (docs/FORMAT.md, "Values"): a map of a truth value to a list of a number and a text, bytes, a map
-/// of texts, and a stack.
+/// The bytes of a list (docs/FORMAT.md, "Field types"): a map of a truth value to a list of a number and a text, bytes,
+/// a map of texts, and a stack.
 const NESTED: &[u8] = b"\x04\0\0\0\
     \x0F\x01\0\0\0\x03\x01\x0E\x02\0\0\0\x09\xAC\x02\x04\x05\0\0\0inner\
     \x05\x02\0\0\0\xFF\0\
