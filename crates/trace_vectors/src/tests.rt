@@ -30,5 +30,6 @@ mod told;
 mod traces;
 mod unmade;
 mod values;
+mod whole_events;
 mod writers;
 mod written_values;
