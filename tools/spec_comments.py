@@ -1,5 +1,14 @@
-"""What words of specs/ say that have no comment there, nor share that of a word beside them: by crate and file. Used by
-tools/public_words for the last section of docs/MODEL.md. A word that gets a comment in specs/ is taken out here."""
+"""What words of specs/ and cited lemmas say that have no comment in their own files, by crate and file.
+
+Used by tools/public_words for the last section of docs/MODEL.md (COMMENTS: words that do not share the comment of a
+word beside them either), and by tools/lemmas (LEMMAS). What gets a comment in its own file is taken out here."""
+
+LEMMAS = {
+    "trace_wire FrameLemmas": {
+        "event_again": "an event that stands there is read, whatever bytes come after it",
+        "event_takes": "what is read as an event takes the bytes of one, and leaves those after it",
+    },
+}
 
 COMMENTS = {
     "trace_values Values": {
