@@ -28,6 +28,7 @@ abbrev pub entries_over : List TakenEvent → List Track → List Entry
 entries_over [] ts = []
 entries_over (x ∷ xs) ts = (entries_of x.told x.event ts ++ x.counts) ++ entries_over xs (tracks_after x.event ts)
 
+-- the tracks after events, one after another
 abbrev pub tracks_over : List TakenEvent → List Track → List Track
 tracks_over [] ts = ts
 tracks_over (x ∷ xs) ts = tracks_over xs (tracks_after x.event ts)

@@ -41,6 +41,7 @@ frame_by None fs = 0
 abbrev pub frames_after : ShownEvent → List Frame → List Frame
 frames_after e fs = frames_by (first_stack e.pools.stacks e.values) fs
 
+-- the number of that frame for the first stack among the values of an event
 abbrev pub frame_of : ShownEvent → List Frame → ℕ
 frame_of e fs = frame_by (first_stack e.pools.stacks e.values) fs
 

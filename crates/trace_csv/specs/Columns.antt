@@ -6,6 +6,7 @@ use Rattle.std.specs.Fmt.{decimal}
 use Rattle.std.specs.List.{list_any, range_with_len}
 use Rattle.trace_wire.specs.Schemas.{Field}
 
+-- the name of the column of the times
 abbrev pub time_name : List ℕ
 time_name = codes "timestamp_ns"
 
@@ -21,6 +22,7 @@ most_named = 1000
 abbrev pub same_name : List ℕ → List ℕ → Bool
 same_name a b = bytes_eq (map to_ascii_lowercase a) (map to_ascii_lowercase b)
 
+-- a field has such a name
 abbrev pub is_among : List Field → List ℕ → Bool
 is_among fields name = list_any (λ f. same_name f.name name) fields
 

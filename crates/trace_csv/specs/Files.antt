@@ -4,6 +4,7 @@ use Rattle.std.specs.Char.{is_ascii_alphanumeric}
 use Rattle.std.specs.Fmt.{decimal}
 use Rattle.std.specs.List.{All}
 
+-- characters by their bytes
 abbrev pub dash : ℕ
 dash = 45
 

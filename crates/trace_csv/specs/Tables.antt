@@ -31,6 +31,7 @@ column_text fields place =
 abbrev pub table_head : List ℕ → List ℕ
 table_head name = codes "CREATE TABLE \"" ++ name ++ codes "\" (\n  \"timestamp_ns\" UBIGINT"
 
+-- how the text ends
 abbrev pub table_end : List ℕ
 table_end = codes "\n);\n"
 

@@ -12,6 +12,7 @@ stack_of stacks (stack xs) = Some xs
 stack_of stacks (pooled_stack id) = map.get stacks id
 stack_of stacks v = None
 
+-- the first where it is there, else the second
 abbrev pub or_else : Option (List ℕ) → Option (List ℕ) → Option (List ℕ)
 or_else (Some xs) other = Some xs
 or_else None other = other

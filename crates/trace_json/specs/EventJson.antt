@@ -20,10 +20,12 @@ use Rattle.dial9_trace_format.specs.ShownEvents.{ShownEvent, names_of}
 
 -- ---- lists and objects
 
+-- values as the items of a list
 abbrev pub items_of : List Json → Items
 items_of [] = no_items
 items_of (j ∷ js) = item j (items_of js)
 
+-- names and values as the members of an object
 abbrev pub members_of : List (List ℕ × Json) → Members
 members_of [] = no_members
 members_of (m ∷ ms) = member m.0 m.1 (members_of ms)
@@ -57,6 +59,7 @@ text_pair_json p = pair_json (text_json p.0) (text_json p.1)
 abbrev pub texts_json : List (List ℕ × List ℕ) → Json
 texts_json ps = list_json (list_map text_pair_json ps)
 
+-- an address
 abbrev pub address_json : ℕ → Json
 address_json a = string (address_text a)
 
@@ -79,6 +82,7 @@ pooled_stack_json id None = id_json (codes "unresolved_stack") id
 
 -- ---- floats
 
+-- the bits of both infinities
 abbrev pub infinity_bits : ℕ
 infinity_bits = 0x7ff0_0000_0000_0000
 

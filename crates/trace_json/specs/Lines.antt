@@ -4,6 +4,7 @@ use Rattle.json.specs.Json.{Json, document, max_depth}
 use Rattle.json.specs.Print.{print}
 use Rattle.json.specs.Tree.{json_tokens, depth}
 
+-- the end of a line, by its byte
 abbrev pub line_feed : ℕ
 line_feed = 10
 

@@ -21,6 +21,7 @@ measure_of (bytes s) = Length (length s)
 measure_of (stack xs) = Length (length xs)
 measure_of v = Nothing
 
+-- the number that a measure has, where it is of this kind
 abbrev pub natural_in : Measure → List ℕ
 natural_in (Natural n) = n ∷ []
 natural_in m = []
