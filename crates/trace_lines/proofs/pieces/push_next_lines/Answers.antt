@@ -12,8 +12,8 @@ returns-in-Wait c =
     let new = c.next_compact-frame.new.self.state in
     let first = string_bytes c.push_first_part.new.line in
     let lines = string_bytes c.push_pulled_line.new.line in
-    let come = next_ok old new (next_as compact_item_of c.next_compact-frame.result) first lines c.push_pulled_line.result
-    c.requires.fed c.next_compact-frame.ensures.pulls
+    let come = next_ok old new (next_as compact_item_of c.next_compact-frame.result) first lines
+    c.push_pulled_line.result c.requires.fed c.next_compact-frame.ensures.pulls
     (first_as c.version-before.result old.version c.version.result new.version (string_bytes c.args.line.now) first
     c.version-before.ensures c.version.ensures c.requires.empty c.in_ok-push_first_part.ensures)
     c.push_pulled_line.ensures in
@@ -28,8 +28,8 @@ returns-in_default c =
     let new = c.next_compact-frame.new.self.state in
     let first = string_bytes c.push_first_part.new.line in
     let lines = string_bytes c.push_pulled_line.new.line in
-    let come = next_ok old new (next_as compact_item_of c.next_compact-frame.result) first lines c.push_pulled_line.result
-    c.requires.fed c.next_compact-frame.ensures.pulls
+    let come = next_ok old new (next_as compact_item_of c.next_compact-frame.result) first lines
+    c.push_pulled_line.result c.requires.fed c.next_compact-frame.ensures.pulls
     (first_as c.version-before.result old.version c.version.result new.version (string_bytes c.args.line.now) first
     c.version-before.ensures c.version.ensures c.requires.empty c.in_ok-push_first_part.ensures)
     c.push_pulled_line.ensures in
