@@ -373,7 +373,8 @@ fn push_pulled_line(
     frame: Result<Option<CompactFrame>, DecodeError>,
 ) -> Result<Next, AllocError>
     ensures { IfOk result
-        (PulledLines (next_as compact_item_of frame) (string_bytes line.old) (string_bytes line.new)) }
+        (PulledLines (next_as compact_item_of frame) (string_bytes line.old)
+        (string_bytes line.new)) }
 {
     match frame {
         Ok(Some(frame)) => {
