@@ -22,4 +22,5 @@ mod PlainRuns
 mod GrowingParts
 mod SentParts
 mod SpelledParts
+mod TextRuns
 mod PiecesHeld

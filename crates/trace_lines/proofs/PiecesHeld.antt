@@ -31,7 +31,7 @@ use Rattle.trace_lines.specs.declared.pieces.Next.TheVariants.{Line, Wait, End}
 use Rattle.trace_lines.specs.declared.sent_lines.Lines.{Lines}
 use Rattle.trace_lines.specs.declared.sent_lines.LineFault.{LineFault}
 use Rattle.trace_lines.specs.declared.sent_lines.LineFault.TheVariants.{OutOfMemory, Unsent}
-use Rattle.trace_lines.specs.parts.LineLaws.{goes_after}
+use Rattle.trace_lines.specs.parts.LineLaws.{goes_after, line_joins}
 use Rattle.trace_lines.specs.parts.PieceDumps.{AreNextLines, ArePieceLines, IsFed, IsLeft, LinesBegin, LinesCome}
 use Rattle.trace_lines.specs.parts.PieceDumps.{SendsPiece}
 use Rattle.trace_lines.specs.parts.SentLines.{GoOut, Leaves, LineGrows, unsent}
@@ -165,6 +165,28 @@ next_begins old new text Wait (come, waiting) =
     front_so_far old new text (record { come = come; fed = waiting.fed })
 next_begins old new text (End status) ends = λ more fits.
     (status, [], subst (λ (x : List ℕ). IsLeft old ([] ++ more) status x) (sym (append-nil text)) (ends more))
+
+-- nothing more is appended, of which what is there may be sent
+pub nothing_more :
+    {W : Type 0} (told : W → Account) (s m t : Lines W) (old new : FeedState) (next : Next)
+    → PutsNext told s m old new (Ok next) → LineGrows told m [] (Ok tt) t → PutsNext told s t old new (Ok next)
+nothing_more told s m t old new next (text, are, went) more = (
+  text,
+  are,
+  subst (λ (x : List ℕ). LineGrows told s x (Ok tt) t) (append-nil text)
+      (line_joins told s m t text [] (Ok tt) went more),
+)
+
+-- or it could not be sent
+pub nothing_sent :
+    {W : Type 0} (told : W → Account) (s m t : Lines W) (old new : FeedState) (next : Next) (e : LineFault)
+    → PutsNext told s m old new (Ok next) → LineGrows told m [] (Err e) t → PutsNext told s t old new (Err e)
+nothing_sent told s m t old new next e (text, are, went) more = (
+  text,
+  next_begins old new text next are,
+  subst (λ (x : List ℕ). LineGrows told s x (Err e) t) (append-nil text)
+      (line_joins told s m t text [] (Err e) went more),
+)
 
 -- ---- and then held
 

@@ -4,11 +4,13 @@
 ghost use Rattle.std.specs.Prelude.{◌++◌, codes};
 ghost use Rattle.std.specs.Fmt.{decimal};
 ghost use Rattle.trace_wire.specs.PoolEntries.{string_entry_of, stack_entry_of};
+ghost use Rattle.dial9_trace_format.specs.CompactFrames.{compact_entry_of};
 ghost use Rattle.trace_lines.specs.Appending.{AppendsText};
 ghost use Rattle.trace_lines.specs.Lines.{string_entry_text, stack_entry_text, annotation_text};
 
 use crate::text::{push_addresses, push_decimal, push_quoted};
 use crate::text_maps::push_text_pair;
+use dial9_trace_format::decoder::CompactEntry;
 use std::alloc::AllocError;
 use trace_wire::codec::{PoolEntry, StackPoolEntry};
 use trace_wire::schema::FieldAnnotation;
@@ -22,6 +24,16 @@ pub fn push_string_entry(out: &mut String, entry: &PoolEntry) -> Result<(), Allo
     let id = entry.pool_id;
     push_number_before(out, u64::from(id))?;
     push_quoted(out, &entry.bytes)
+}
+
+/// The same of an entry that takes little memory.
+#[tactic(auto, unfolding(crate::specs::Lines::string_entry_text))]
+pub fn push_compact_entry(out: &mut String, entry: &CompactEntry) -> Result<(), AllocError>
+    ensures { AppendsText (string_entry_text (compact_entry_of entry.now)) out.old out.new result }
+{
+    let id = entry.pool_id();
+    push_number_before(out, u64::from(id))?;
+    push_quoted(out, entry.bytes())
 }
 
 /// Appends an entry of a stack pool after a space: its id and its addresses. `AllocError` where a growth was refused.

@@ -9,7 +9,8 @@ ghost use Rattle.trace_lines.specs.parts.PieceDumps.{AppendsEnd, AppendsFirst, P
 ghost use Rattle.trace_lines.specs.parts.PieceDumps.{StuckLines};
 ghost use Rattle.trace_lines.specs.parts.SentPieces.{GathersSent, HoldsNext, PutsEvent, PutsNext};
 ghost use Rattle.dial9_trace_format.specs.WholeEvents.{IsWholeEvent};
-ghost use Rattle.dial9_trace_format.specs.DecodedFrames.{item_of, next_as};
+ghost use Rattle.dial9_trace_format.specs.CompactFrames.{compact_item_of};
+ghost use Rattle.dial9_trace_format.specs.DecodedFrames.{next_as};
 ghost use Rattle.dial9_trace_format.specs.Feeding.{new_feed};
 ghost use Rattle.trace_lines.specs.parts.Sent.{Sends};
 ghost use Rattle.trace_lines.specs.Program.{DumpsAll};
@@ -17,13 +18,13 @@ ghost use Rattle.trace_lines.specs.Program.{DumpsAll};
 use crate::dump::{CONFLICT, DumpError, FAILED, NO_HEADER, STOPPED, WHOLE};
 use crate::growing::GrowingLine;
 use crate::lines::{
-    push_conflict_line, push_first_line, push_frame_line, push_no_header_line, push_stopped_line,
+    push_compact_line, push_conflict_line, push_first_line, push_no_header_line, push_stopped_line,
     push_whole_line,
 };
 use crate::sent_lines::{ENOUGH, LineFault, Lines};
 use crate::spelled::push_spelled_line;
 use dial9_trace_format::decoder::{
-    DecodeError, DecodeErrorKind, DecodedFrame, FeedDecoder, WholeEvent,
+    CompactFrame, DecodeError, DecodeErrorKind, FeedDecoder, WholeEvent,
 };
 use std::alloc::{AllocError, Global};
 use std::io::{ErrorKind, Read};
@@ -278,7 +279,11 @@ fn put_next<W: TraceWrite>(
     match large_event(decoder) {
         Some(event) => put_event(alloc, decoder, event, lines),
         None => match push_next_lines(&mut lines.line, decoder) {
-            Ok(next) => Ok(next),
+            Ok(next) => {
+                // (a long line is sent at once, and not held beside itself)
+                tri!(lines.put_on(""));
+                Ok(next)
+            }
             Err(_) => Err(LineFault::OutOfMemory),
         },
     }
@@ -327,7 +332,7 @@ fn push_next_lines(line: &mut String, decoder: &mut FeedDecoder) -> Result<Next,
         (AreNextLines decoder.old.state decoder.new.state (string_bytes line.new)) }
 {
     let before = decoder.version();
-    let frame = decoder.next_frame();
+    let frame = decoder.next_compact();
     push_first_part(line, before, decoder.version())?;
     match push_pulled_line(line, frame)? {
         Next::Wait => push_stuck_line(line, decoder),
@@ -365,14 +370,15 @@ fn push_first_part(
 // Appends the line of the frame, or the last line.
 fn push_pulled_line(
     line: &mut String,
-    frame: Result<Option<DecodedFrame>, DecodeError>,
+    frame: Result<Option<CompactFrame>, DecodeError>,
 ) -> Result<Next, AllocError>
     ensures { IfOk result
-        (PulledLines (next_as item_of frame) (string_bytes line.old) (string_bytes line.new)) }
+        (PulledLines (next_as compact_item_of frame) (string_bytes line.old)
+        (string_bytes line.new)) }
 {
     match frame {
         Ok(Some(frame)) => {
-            push_frame_line(line, &frame)?;
+            push_compact_line(line, &frame)?;
             Ok(Next::Line)
         }
         Ok(None) => Ok(Next::Wait),

@@ -7,14 +7,15 @@ ghost use Rattle.trace_values.specs.declared.types.field_type.FieldType.TheVaria
 ghost use Rattle.trace_values.specs.Reading.{value_at, plain_at, item_at, pair_at, times_at, field_at, fields_at};
 ghost use Rattle.trace_values.specs.Reading.{as_value, many_at, text_pair_at};
 ghost use Rattle.trace_values.specs.Limits.{most_items};
-ghost use Rattle.trace_values.specs.Values.{Value, owned_reader, texts, AreFields};
+ghost use Rattle.trace_values.specs.Values.{Value, owned_reader, text, texts, AreFields};
+ghost use Rattle.trace_values.specs.ValueViews.{view};
 ghost use Rattle.trace_wire.specs.Schemas.{types_of};
 ghost use Rattle.trace_lines.specs.Appending.{AppendsText};
-ghost use Rattle.trace_lines.specs.Lines.{line, event_line, pair_text, spaced_value, value_text};
+ghost use Rattle.trace_lines.specs.Lines.{line, event_line, pair_text, quoted_byte, spaced_value, value_text};
 ghost use Rattle.trace_lines.specs.parts.SpelledLines.{PutsRead, event_start, pair_value_text};
 
 use crate::growing::{CommaBefore, GrowingLine, LinePart};
-use crate::text::push_decimal;
+use crate::text::{push_decimal, push_unquoted};
 use crate::text_maps::push_text_pair;
 use crate::value::{Shown, push_line_value};
 use std::alloc::{AllocError, Global};
@@ -23,6 +24,9 @@ use trace_values::types::limits::{MAX_ITEMS, MAX_LEVELS};
 use trace_values::types::parts::{byte_at, count_at, counted_at, type_with_tag};
 use trace_values::types::{FieldType, FieldValue};
 use trace_wire::schema::{FieldDef, WireTypeId};
+
+// So many bytes of a text at most are appended at once.
+const RUN: usize = 4096;
 
 /// Appends the line of an event: its wire id, its time in nanoseconds, and the values of its fields, which these bytes
 /// spell.
@@ -209,8 +213,46 @@ fn push_plain_at<'a, L: GrowingLine>(
     let Ok(Some((value, rest))) = FieldValue::decode(alloc, field_type, bytes) else {
         return Err(out.refusal());
     };
-    tri!(push_line_value(out, &value, &Shown::Plain));
+    tri!(push_plain_value(out, &value));
     Ok(rest)
+}
+
+// Appends a value that holds no others: a text run by run.
+fn push_plain_value<L: GrowingLine>(out: &mut L, value: &FieldValue) -> Result<(), L::Fault>
+    ensures { L.grows out.old (value_text (view value.now)) result out.new }
+{
+    match value {
+        FieldValue::String(characters) => push_text_runs(out, characters.as_bytes()),
+        _ => push_line_value(out, value, &Shown::Plain),
+    }
+}
+
+// Appends a text run by run, so that of a long one, of which each byte may take four, a front is sent.
+fn push_text_runs<L: GrowingLine>(out: &mut L, characters: &[u8]) -> Result<(), L::Fault>
+    ensures { L.grows out.old (value_text (text characters.now)) result out.new }
+{
+    tri!(out.put("String:\""));
+    let mut rest = characters;
+    'runs: while rest.len() > RUN {
+        let (run, others) = rest.split_at(RUN);
+        tri!(out.put_on(Unquoted(run)));
+        rest = others;
+    }
+    tri!(out.put_on(Unquoted(rest)));
+    out.put("\"")
+}
+
+// Bytes as they stand between quotes.
+#[derive(Clone, Copy)]
+struct Unquoted<'a>(&'a [u8]);
+
+impl<'a> LinePart for Unquoted<'a> {
+    ghost text = { λ p. flat_map quoted_byte p.0.now };
+
+    #[inline(always)]
+    fn push_to(self, out: &mut String) -> Result<(), AllocError> {
+        push_unquoted(out, self.0)
+    }
 }
 
 // The same of a list, whose items are of at most so many levels.

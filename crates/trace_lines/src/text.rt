@@ -79,8 +79,9 @@ fn push_address(out: &mut String, address: u64) -> Result<(), AllocError>
     write!(out, "0x{address:x}")
 }
 
-// Appends bytes as they stand between quotes: few one by one, and many run by run.
-fn push_unquoted(out: &mut String, bytes: &[u8]) -> Result<(), AllocError>
+/// Appends bytes as they stand between quotes: few one by one, and many run by run. `AllocError` where a growth was
+/// refused.
+pub(crate) fn push_unquoted(out: &mut String, bytes: &[u8]) -> Result<(), AllocError>
     ensures { AppendsText (flat_map quoted_byte bytes.now) out.old out.new result }
 {
     if bytes.len() < FEW {

@@ -3,6 +3,7 @@
 mod ample;
 mod calls;
 mod checks;
+mod compact_frames;
 mod copies;
 mod dump_faults;
 mod example;

@@ -1,5 +1,6 @@
 use Rattle.std.proofs.Common.{◌∙◌, Ok, ap, string_bytes}
-use Rattle.dial9_trace_format.specs.DecodedFrames.{item_of, next_as}
+use Rattle.dial9_trace_format.specs.CompactFrames.{compact_item_of}
+use Rattle.dial9_trace_format.specs.DecodedFrames.{next_as}
 use Rattle.trace_lines.specs.parts.PieceDumps.{AreNextLines}
 use Rattle.trace_lines.specs.declared.pieces.Next.TheVariants.{Wait}
 use Rattle.trace_lines.proofs.PulledLines.{first_as, next_ok, stuck_ok, was_ok}
@@ -8,11 +9,11 @@ use Rattle.trace_lines.proofs.pieces.push_next_lines.Goals as goal
 pub returns-in-Wait : goal.returns-in-Wait
 returns-in-Wait c =
     let old = c.args.decoder.now.state in
-    let new = c.next_frame-frame.new.self.state in
+    let new = c.next_compact-frame.new.self.state in
     let first = string_bytes c.push_first_part.new.line in
     let lines = string_bytes c.push_pulled_line.new.line in
-    let come = next_ok old new (next_as item_of c.next_frame-frame.result) first lines c.push_pulled_line.result
-    c.requires.fed c.next_frame-frame.ensures.pulls
+    let come = next_ok old new (next_as compact_item_of c.next_compact-frame.result) first lines
+    c.push_pulled_line.result c.requires.fed c.next_compact-frame.ensures.pulls
     (first_as c.version-before.result old.version c.version.result new.version (string_bytes c.args.line.now) first
     c.version-before.ensures c.version.ensures c.requires.empty c.in_ok-push_first_part.ensures)
     c.push_pulled_line.ensures in
@@ -24,11 +25,11 @@ returns-in-Wait c =
 pub returns-in_default : goal.returns-in_default
 returns-in_default c =
     let old = c.args.decoder.now.state in
-    let new = c.next_frame-frame.new.self.state in
+    let new = c.next_compact-frame.new.self.state in
     let first = string_bytes c.push_first_part.new.line in
     let lines = string_bytes c.push_pulled_line.new.line in
-    let come = next_ok old new (next_as item_of c.next_frame-frame.result) first lines c.push_pulled_line.result
-    c.requires.fed c.next_frame-frame.ensures.pulls
+    let come = next_ok old new (next_as compact_item_of c.next_compact-frame.result) first lines
+    c.push_pulled_line.result c.requires.fed c.next_compact-frame.ensures.pulls
     (first_as c.version-before.result old.version c.version.result new.version (string_bytes c.args.line.now) first
     c.version-before.ensures c.version.ensures c.requires.empty c.in_ok-push_first_part.ensures)
     c.push_pulled_line.ensures in
