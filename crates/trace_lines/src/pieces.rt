@@ -29,7 +29,6 @@ use dial9_trace_format::decoder::{
 use std::alloc::{AllocError, Global};
 use std::io::{ErrorKind, Read};
 use trace_values::leb128::{TraceWrite, send_all};
-use trace_values::tri;
 
 // So many bytes at most are read at once.
 const PIECE: usize = 4096;
@@ -240,7 +239,7 @@ fn gather_kept<W: TraceWrite>(
     ensures { GathersSent W.told lines.old lines.new decoder.old.state [] decoder.new.state result }
 {
     'lines: loop {
-        match tri!(hold_next(alloc, decoder, lines)) {
+        match hold_next(alloc, decoder, lines)? {
             Next::Line => {}
             Next::Wait => return Ok(None),
             Next::End(status) => return Ok(Some(status)),
@@ -259,11 +258,9 @@ fn hold_next<W: TraceWrite>(
     ensures { HoldsNext W.told lines.old lines.new decoder.old.state decoder.new.state result }
 {
     lines.line.clear();
-    let next = tri!(put_next(alloc, decoder, lines));
-    match lines.held.push_str(&lines.line) {
-        Ok(()) => Ok(next),
-        Err(_) => Err(LineFault::OutOfMemory),
-    }
+    let next = put_next(alloc, decoder, lines)?;
+    lines.held.push_str(&lines.line)?;
+    Ok(next)
 }
 
 // The same in the line, which is empty.
@@ -318,7 +315,7 @@ fn put_event<L: GrowingLine>(
     };
     let bytes = decoder.event_values(event);
     let (id, time) = (event.type_id, event.timestamp_ns);
-    tri!(push_spelled_line(alloc, line, id, time, schema.fields(), bytes));
+    push_spelled_line(alloc, line, id, time, schema.fields(), bytes)?;
     decoder.pass_event(event);
     Ok(Next::Line)
 }

@@ -1,15 +1,16 @@
 //! Lines that are held before they are sent, and sent as they grow.
 
-ghost use Rattle.std.specs.Prelude.{[]};
+ghost use Rattle.std.specs.Prelude.{◌≡◌, []};
 ghost use Rattle.dial9_trace_format.specs.ShownEvents.{shown_event};
+ghost use Rattle.trace_lines.specs.declared.sent_lines.LineFault.TheVariants.{OutOfMemory};
 ghost use Rattle.trace_lines.specs.parts.SentLines.{LineGrows, HoldsEvent, takes_event};
 ghost use Rattle.trace_lines.specs.parts.LineLaws.{line_empty, line_joins, line_stops};
 
 use crate::growing::{GrowingLine, LinePart};
 use crate::resolved::{line_event, push_event_in_full};
 use dial9_trace_format::decoder::{EventSink, RawEvent};
+use std::alloc::AllocError;
 use trace_values::leb128::{TraceWrite, send_all};
-use trace_values::tri;
 
 /// So many bytes of lines are sent at once. Only the last line that was held goes past it, or the last value of a line.
 pub(crate) const ENOUGH: usize = 65_536;
@@ -21,6 +22,14 @@ pub(crate) enum LineFault {
     OutOfMemory,
     /// The writer failed.
     Unsent,
+}
+
+impl From<AllocError> for LineFault {
+    ghost from_gives = { λ _ e. e ≡ OutOfMemory };
+
+    fn from(_: AllocError) -> LineFault {
+        LineFault::OutOfMemory
+    }
 }
 
 /// Why the lines take no more events for now.
@@ -54,15 +63,13 @@ impl<'w, W: TraceWrite> GrowingLine for Lines<'w, W> {
 
     #[inline(always)]
     fn put<P: LinePart>(&mut self, part: P) -> Result<(), LineFault> {
-        match part.push_to(&mut self.line) {
-            Ok(()) => Ok(()),
-            Err(_) => Err(LineFault::OutOfMemory),
-        }
+        part.push_to(&mut self.line)?;
+        Ok(())
     }
 
     #[inline(always)]
     fn put_on<P: LinePart>(&mut self, part: P) -> Result<(), LineFault> {
-        tri!(self.put(part));
+        self.put(part)?;
         if self.line.len() < ENOUGH {
             return Ok(());
         }
@@ -100,11 +107,9 @@ impl<'w, W: TraceWrite> Lines<'w, W> {
         ensures { HoldsEvent W.told self.old (shown_event event.now) result self.new }
     {
         self.line.clear();
-        tri!(push_event_in_full(self, &line_event(event)));
-        match self.held.push_str(&self.line) {
-            Ok(()) => Ok(()),
-            Err(_) => Err(LineFault::OutOfMemory),
-        }
+        push_event_in_full(self, &line_event(event))?;
+        self.held.push_str(&self.line)?;
+        Ok(())
     }
 }
 

@@ -41,11 +41,11 @@ pub(crate) fn push_spelled_line<L: GrowingLine>(
     ensures { (vs : List Value) → AreFields owned_reader (types_of fields.now) bytes.now vs
         → L.grows out.old (line (event_line type_id.0 timestamp_ns vs)) result out.new }
 {
-    tri!(out.put(NumberedStart {
+    out.put(NumberedStart {
         type_id,
         timestamp_ns,
-    }));
-    tri!(push_fields_at(alloc, out, fields, bytes));
+    })?;
+    push_fields_at(alloc, out, fields, bytes)?;
     out.put("\n")
 }
 
@@ -86,8 +86,8 @@ fn push_fields_at<'a, L: GrowingLine>(
 {
     let mut rest = bytes;
     'fields: for field in fields {
-        tri!(out.put(" "));
-        rest = tri!(push_field_at(alloc, out, field.field_type(), rest));
+        out.put(" ")?;
+        rest = push_field_at(alloc, out, field.field_type(), rest)?;
     }
     Ok(rest)
 }
@@ -109,7 +109,7 @@ fn push_field_at<'a, L: GrowingLine>(
         return Err(out.refusal());
     };
     if present == 0 {
-        tri!(out.put("None"));
+        out.put("None")?;
         return Ok(rest);
     }
     push_value_at(alloc, out, MAX_LEVELS, field_type, rest)
@@ -164,8 +164,8 @@ fn push_text_pairs_at<'a, L: GrowingLine>(
 {
     let mut rest = bytes;
     'pairs: for index in 0..count as usize {
-        tri!(out.put(CommaBefore(index)));
-        rest = tri!(push_text_pair_at(out, rest));
+        out.put(CommaBefore(index))?;
+        rest = push_text_pair_at(out, rest)?;
     }
     Ok(rest)
 }
@@ -180,7 +180,7 @@ fn push_text_pair_at<'a, L: GrowingLine>(out: &mut L, bytes: &'a [u8]) -> Result
     let Ok((value, rest)) = counted_at(after) else {
         return Err(out.refusal());
     };
-    tri!(out.put_on(QuotedPair { key, value }));
+    out.put_on(QuotedPair { key, value })?;
     Ok(rest)
 }
 
@@ -213,7 +213,7 @@ fn push_plain_at<'a, L: GrowingLine>(
     let Ok(Some((value, rest))) = FieldValue::decode(alloc, field_type, bytes) else {
         return Err(out.refusal());
     };
-    tri!(push_plain_value(out, &value));
+    push_plain_value(out, &value)?;
     Ok(rest)
 }
 
@@ -312,8 +312,8 @@ fn push_items_at<'a, L: GrowingLine>(
 {
     let mut rest = bytes;
     'items: for index in 0..count as usize {
-        tri!(out.put(CommaBefore(index)));
-        rest = tri!(push_item_at(alloc, out, levels, rest));
+        out.put(CommaBefore(index))?;
+        rest = push_item_at(alloc, out, levels, rest)?;
     }
     Ok(rest)
 }
@@ -333,8 +333,8 @@ fn push_pairs_at<'a, L: GrowingLine>(
 {
     let mut rest = bytes;
     'pairs: for index in 0..count as usize {
-        tri!(out.put(CommaBefore(index)));
-        rest = tri!(push_pair_at(alloc, out, levels, rest));
+        out.put(CommaBefore(index))?;
+        rest = push_pair_at(alloc, out, levels, rest)?;
     }
     Ok(rest)
 }
@@ -350,8 +350,8 @@ fn push_pair_at<'a, L: GrowingLine>(
     ensures { PutsRead L.grows pair_value_text (pair_at (value_at owned_reader levels) bytes.now)
         out.old out.new result }
 {
-    let rest = tri!(push_item_at(alloc, out, levels, bytes));
-    tri!(out.put("="));
+    let rest = push_item_at(alloc, out, levels, bytes)?;
+    out.put("=")?;
     push_item_at(alloc, out, levels, rest)
 }
 

@@ -11,7 +11,6 @@ ghost use Rattle.trace_lines.specs.Lines.{pair_text, value_text};
 
 use crate::text::{push_comma_before, push_quoted};
 use std::alloc::{AllocError, Global};
-use trace_values::tri;
 use trace_values::types::parts::utf8_of;
 
 /// A key and a value of a map of texts, which need not be text.
@@ -64,7 +63,7 @@ pub(crate) fn text_pairs(
         let Ok(value) = utf8_of(pair.1.as_slice()) else {
             return Ok(texts);
         };
-        tri!(texts.reserve(1));
+        texts.reserve(1)?;
         texts.push_reserved((key, value));
     }
     Ok(texts)

@@ -195,8 +195,8 @@ fn push_list<V: LineValue, L: GrowingLine>(
     ensures { L.grows out.old (value_text (shown_in form.now
         (list (values_to_items (list_map V.value items.now))))) result out.new }
 {
-    tri!(out.put("List:["));
-    tri!(push_items(out, items, form));
+    out.put("List:[")?;
+    push_items(out, items, form)?;
     out.put("]")
 }
 
@@ -210,8 +210,8 @@ fn push_map<V: LineValue, L: GrowingLine>(
         (map (values_to_pairs (list_map (λ p. (V.value p.0, V.value p.1)) pairs.now))))) result
         out.new }
 {
-    tri!(out.put("Map:{"));
-    tri!(push_pairs(out, pairs, form));
+    out.put("Map:{")?;
+    push_pairs(out, pairs, form)?;
     out.put("}")
 }
 
@@ -226,8 +226,8 @@ fn push_items<V: LineValue, L: GrowingLine>(
         out.new }
 {
     'items: for (index, item) in items.iter().enumerate() {
-        tri!(out.put(CommaBefore(index)));
-        tri!(push_line_value(out, item, form));
+        out.put(CommaBefore(index))?;
+        push_line_value(out, item, form)?;
     }
     Ok(())
 }
@@ -292,7 +292,7 @@ fn item_ids_known<V: LineValue>(
         (values_to_items (list_map V.value items.now))) result }
 {
     for item in items {
-        tri!(ids_known(strings, stacks, item));
+        ids_known(strings, stacks, item)?;
     }
     Ok(())
 }
@@ -307,8 +307,8 @@ fn pair_ids_known<V: LineValue>(
         (values_to_pairs (list_map (λ p. (V.value p.0, V.value p.1)) pairs.now))) result }
 {
     for pair in pairs {
-        tri!(ids_known(strings, stacks, &pair.0));
-        tri!(ids_known(strings, stacks, &pair.1));
+        ids_known(strings, stacks, &pair.0)?;
+        ids_known(strings, stacks, &pair.1)?;
     }
     Ok(())
 }

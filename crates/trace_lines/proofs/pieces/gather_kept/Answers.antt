@@ -1,3 +1,4 @@
+use Rattle.std.proofs.lemmas.Result.{err_from_is_err_and}
 use Rattle.trace_lines.proofs.PiecesHeld.{last_held, next_refused, no_more_held, none_held, one_more_held}
 use Rattle.trace_lines.proofs.pieces.gather_kept.Goals as goal
 
@@ -7,24 +8,26 @@ lines-init g c = none_held g.W.TraceWrite.told c.args.lines.now c.args.decoder.n
 pub lines-preserved : goal.lines-preserved
 lines-preserved g c =
     (one_more_held g.W.TraceWrite.told c.hold_next.new.lines c.hold_next.new.decoder.state c.in-Line.is
-    c.lines.invariant c.in-Ok-tri.ensures).0
+    c.lines.invariant c.in_ok-status.ensures).0
 
 pub lines-smaller : goal.lines-smaller
 lines-smaller g c =
     (one_more_held g.W.TraceWrite.told c.hold_next.new.lines c.hold_next.new.decoder.state c.in-Line.is
-    c.lines.invariant c.in-Ok-tri.ensures).1
+    c.lines.invariant c.in_ok-status.ensures).1
 
-pub returns-in-lines : goal.returns-in-lines
-returns-in-lines g c =
-    next_refused g.W.TraceWrite.told c.hold_next.new.lines c.hold_next.new.decoder.state _ c.lines.invariant
-    c.in-Err-tri.ensures
+pub returns-in_err-status : goal.returns-in_err-status
+returns-in_err-status g c =
+    let p = err_from_is_err_and c.from_residual.result c.from_residual.ensures.1 in
+    rw (p.1, p.2) (next_refused g.W.TraceWrite.told c.hold_next.new.lines c.hold_next.new.decoder.state _
+    c.lines.invariant
+    c.in_err-status.ensures)
 
 pub returns-in-Wait : goal.returns-in-Wait
 returns-in-Wait g c =
     no_more_held g.W.TraceWrite.told c.hold_next.new.lines c.hold_next.new.decoder.state c.in-Wait.is
-    c.lines.invariant c.in-Ok-tri.ensures
+    c.lines.invariant c.in_ok-status.ensures
 
 pub returns-in-End : goal.returns-in-End
 returns-in-End g c =
     last_held g.W.TraceWrite.told c.hold_next.new.lines c.hold_next.new.decoder.state c.in-End.status c.in-End.is
-    c.lines.invariant c.in-Ok-tri.ensures
+    c.lines.invariant c.in_ok-status.ensures

@@ -1,4 +1,5 @@
 use Rattle.std.proofs.Common.{List, ap, map as list_map}
+use Rattle.std.proofs.lemmas.Result.{err_from_is_err_and}
 use Rattle.trace_wire.specs.Schemas.{Field}
 use Rattle.dial9_trace_format.specs.ShownEvents.{names_of}
 use Rattle.dial9_trace_format.specs.parts.Resolving.{as_pools}
@@ -20,17 +21,19 @@ returns-in_default g c =
     c.loop-value.value-index _ c.in_default.ensures.cases
     (record { inside = c.loop-value-test.true; is = c.value-item.is }) c.loop-value.invariant
 
-pub returns-in-loop-value : goal.returns-in-loop-value
-returns-in-loop-value g c =
-    field_first g.V.LineValue.value _ c.args.event.now.values.now c.loop-value.value-index _
-    c.in-Some.ensures.cases.0 c.loop-value-test.true c.value-item.is c.loop-value.invariant c.in-Err-tri.ensures
+pub returns-in_err-value_known : goal.returns-in_err-value_known
+returns-in_err-value_known g c =
+    let p = err_from_is_err_and c.from_residual.result c.from_residual.ensures.1 in
+    rw (p.1, p.2) (field_first g.V.LineValue.value _ c.args.event.now.values.now c.loop-value.value-index _
+    c.in-Some.ensures.cases.0 c.loop-value-test.true c.value-item.is c.loop-value.invariant
+    c.in_err-value_known.ensures)
 
 pub loop-value-preserved : goal.loop-value-preserved
 loop-value-preserved g c =
     let e = c.args.event.now in
     field_known g.V.LineValue.value (as_pools e.strings.now e.stacks.now) e.values.now c.loop-value.value-index
     c.in-Some.ensures.cases.0 (record { inside = c.loop-value-test.true; is = c.value-item.is })
-    c.in-Ok-tri.ensures.0 c.loop-value.invariant
+    c.in_ok-value_known.ensures.0 c.loop-value.invariant
 
 pub returns : goal.returns
 returns g c =

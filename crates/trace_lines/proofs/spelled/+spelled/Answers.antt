@@ -1,4 +1,5 @@
 use Rattle.std.proofs.Common.{◌-◌, ◌≡◌, ◌∙◌, suc, ap, arith, sym}
+use Rattle.std.proofs.lemmas.Result.{err_from_is_err_and}
 use Rattle.trace_values.specs.FieldTypes.{inner}
 use Rattle.trace_values.specs.Reading.{item_at, pair_at, value_at}
 use Rattle.trace_values.specs.Values.{owned_reader}
@@ -25,20 +26,23 @@ push_item_at-returns-in-Some g t c =
     (front_byte c.args.bytes.now c.in-len1-up.len_at_least) (sym c.type_with_tag.ensures ∙ c.in-Some.is))
     c.push_value_at.ensures
 
+pub push_pair_at-returns-in_err-rest : goal.push_pair_at-returns-in_err-rest
+push_pair_at-returns-in_err-rest g t c =
+    let p = err_from_is_err_and c.from_residual.result c.from_residual.ensures.1 in
+    rw (p.1, p.2) (key_not_put (value_at owned_reader c.args.levels) c.args.bytes.now _ _ g.met.L.GrowingLine.stops
+    c.in_err-rest.ensures)
+
+pub push_pair_at-returns-in_err-put : goal.push_pair_at-returns-in_err-put
+push_pair_at-returns-in_err-put g t c =
+    let given = c.from_residual-in_err-put in
+    let p = err_from_is_err_and given.result given.ensures.1 in
+    rw (p.1, p.2) (equals_not_put (value_at owned_reader c.args.levels) c.args.bytes.now _ _ _ g.met.L.GrowingLine.joins
+    g.met.L.GrowingLine.stops c.in_ok-rest.ensures c.in_err-put.ensures)
+
 pub push_pair_at-returns : goal.push_pair_at-returns
 push_pair_at-returns g t c =
-    key_not_put (value_at owned_reader c.args.levels) c.args.bytes.now _ _ g.met.L.GrowingLine.stops
-    c.in-Err-tri.ensures
-
-pub push_pair_at-returns-2 : goal.push_pair_at-returns-2
-push_pair_at-returns-2 g t c =
-    equals_not_put (value_at owned_reader c.args.levels) c.args.bytes.now _ _ _ g.met.L.GrowingLine.joins
-    g.met.L.GrowingLine.stops c.in-Ok-tri.ensures c.in-Err-tri-2.ensures
-
-pub push_pair_at-returns-3 : goal.push_pair_at-returns-3
-push_pair_at-returns-3 g t c =
     pair_put (value_at owned_reader c.args.levels) c.args.bytes.now _ _ _ g.met.L.GrowingLine.joins
-    c.in-Ok-tri.ensures c.in-Ok-tri-2.ensures c.push_item_at-2.ensures
+    c.in_ok-rest.ensures c.in_ok-put.ensures c.push_item_at-2.ensures
 
 pub push_items_at-items-init : goal.push_items_at-items-init
 push_items_at-items-init g t c =
@@ -48,17 +52,22 @@ push_items_at-items-init g t c =
 pub push_items_at-items-preserved : goal.push_items_at-items-preserved
 push_items_at-items-preserved g t c =
     items_go_on (item_at (value_at owned_reader c.args.levels)) g.met.L.GrowingLine.joins c.items-test.true
-    c.items.invariant c.in-Ok-tri.ensures c.in-Ok-tri-rest.ensures
+    c.items.invariant c.in_ok-put.ensures c.in_ok-rest.ensures
 
-pub push_items_at-returns-in-items : goal.push_items_at-returns-in-items
-push_items_at-returns-in-items g t c =
-    items_stop_first (item_at (value_at owned_reader c.args.levels)) g.met.L.GrowingLine.stops c.items-test.true
-    c.items.invariant c.in-Err-tri.ensures
+pub push_items_at-returns-in_err-put : goal.push_items_at-returns-in_err-put
+push_items_at-returns-in_err-put g t c =
+    let p = err_from_is_err_and c.from_residual.result c.from_residual.ensures.1 in
+    rw (p.1, p.2) (items_stop_first (item_at (value_at owned_reader c.args.levels)) g.met.L.GrowingLine.stops
+    c.items-test.true
+    c.items.invariant c.in_err-put.ensures)
 
-pub push_items_at-returns-in-items-2 : goal.push_items_at-returns-in-items-2
-push_items_at-returns-in-items-2 g t c =
-    items_stop (item_at (value_at owned_reader c.args.levels)) g.met.L.GrowingLine.joins g.met.L.GrowingLine.stops
-    c.items-test.true c.items.invariant c.in-Ok-tri.ensures c.in-Err-tri-rest.ensures
+pub push_items_at-returns-in_err-rest : goal.push_items_at-returns-in_err-rest
+push_items_at-returns-in_err-rest g t c =
+    let given = c.from_residual-in_err-rest in
+    let p = err_from_is_err_and given.result given.ensures.1 in
+    rw (p.1, p.2) (items_stop (item_at (value_at owned_reader c.args.levels)) g.met.L.GrowingLine.joins
+    g.met.L.GrowingLine.stops
+    c.items-test.true c.items.invariant c.in_ok-put.ensures c.in_err-rest.ensures)
 
 pub push_items_at-returns : goal.push_items_at-returns
 push_items_at-returns g t c =
@@ -73,17 +82,22 @@ push_pairs_at-pairs-init g t c =
 pub push_pairs_at-pairs-preserved : goal.push_pairs_at-pairs-preserved
 push_pairs_at-pairs-preserved g t c =
     items_go_on (pair_at (value_at owned_reader c.args.levels)) g.met.L.GrowingLine.joins c.pairs-test.true
-    c.pairs.invariant c.in-Ok-tri.ensures c.in-Ok-tri-rest.ensures
+    c.pairs.invariant c.in_ok-put.ensures c.in_ok-rest.ensures
 
-pub push_pairs_at-returns-in-pairs : goal.push_pairs_at-returns-in-pairs
-push_pairs_at-returns-in-pairs g t c =
-    items_stop_first (pair_at (value_at owned_reader c.args.levels)) g.met.L.GrowingLine.stops c.pairs-test.true
-    c.pairs.invariant c.in-Err-tri.ensures
+pub push_pairs_at-returns-in_err-put : goal.push_pairs_at-returns-in_err-put
+push_pairs_at-returns-in_err-put g t c =
+    let p = err_from_is_err_and c.from_residual.result c.from_residual.ensures.1 in
+    rw (p.1, p.2) (items_stop_first (pair_at (value_at owned_reader c.args.levels)) g.met.L.GrowingLine.stops
+    c.pairs-test.true
+    c.pairs.invariant c.in_err-put.ensures)
 
-pub push_pairs_at-returns-in-pairs-2 : goal.push_pairs_at-returns-in-pairs-2
-push_pairs_at-returns-in-pairs-2 g t c =
-    items_stop (pair_at (value_at owned_reader c.args.levels)) g.met.L.GrowingLine.joins g.met.L.GrowingLine.stops
-    c.pairs-test.true c.pairs.invariant c.in-Ok-tri.ensures c.in-Err-tri-rest.ensures
+pub push_pairs_at-returns-in_err-rest : goal.push_pairs_at-returns-in_err-rest
+push_pairs_at-returns-in_err-rest g t c =
+    let given = c.from_residual-in_err-rest in
+    let p = err_from_is_err_and given.result given.ensures.1 in
+    rw (p.1, p.2) (items_stop (pair_at (value_at owned_reader c.args.levels)) g.met.L.GrowingLine.joins
+    g.met.L.GrowingLine.stops
+    c.pairs-test.true c.pairs.invariant c.in_ok-put.ensures c.in_err-rest.ensures)
 
 pub push_pairs_at-returns : goal.push_pairs_at-returns
 push_pairs_at-returns g t c =

@@ -1,5 +1,6 @@
 use Rattle.std.proofs.Common.{◌+◌, ◌∙◌, ◌∷◌, ap, arith, drop, sym}
 use Rattle.std.proofs.lemmas.List.{drop_all, length-map}
+use Rattle.std.proofs.lemmas.Result.{err_from_is_err_and}
 use Rattle.trace_values.specs.declared.types.field_type.FieldType.{FieldType}
 use Rattle.trace_wire.specs.Schemas.{Field, types_of}
 use Rattle.trace_wire.proofs.ReadLemmas.{dropped_field}
@@ -14,23 +15,27 @@ fields-preserved g c =
     let types = types_of c.args.fields.now in
     let d = dropped_field c.args.fields.now c.fields.field-index c.field-item.result c.fields-test.true c.field-item.is
     ∙ ap (λ (x : FieldType). x ∷ drop (c.fields.field-index + 1) types) (sym c.field_type.ensures) in
-    fields_go_on types c.field_type.result g.met.L.GrowingLine.joins d c.fields.invariant c.in-Ok-tri.ensures
-    c.in-Ok-tri-rest.ensures
+    fields_go_on types c.field_type.result g.met.L.GrowingLine.joins d c.fields.invariant c.in_ok-put.ensures
+    c.in_ok-rest.ensures
 
-pub returns-in-fields : goal.returns-in-fields
-returns-in-fields g c =
+pub returns-in_err-put : goal.returns-in_err-put
+returns-in_err-put g c =
+    let p = err_from_is_err_and c.from_residual.result c.from_residual.ensures.1 in
     let types = types_of c.args.fields.now in
     let d = dropped_field c.args.fields.now c.fields.field-index c.field-item.result c.fields-test.true
     c.field-item.is in
-    fields_stop_first types _ g.met.L.GrowingLine.stops d c.fields.invariant c.in-Err-tri.ensures
+    rw (p.1, p.2) (fields_stop_first types _ g.met.L.GrowingLine.stops d c.fields.invariant c.in_err-put.ensures)
 
-pub returns-in-fields-2 : goal.returns-in-fields-2
-returns-in-fields-2 g c =
+pub returns-in_err-rest : goal.returns-in_err-rest
+returns-in_err-rest g c =
+    let given = c.from_residual-in_err-rest in
+    let p = err_from_is_err_and given.result given.ensures.1 in
     let types = types_of c.args.fields.now in
     let d = dropped_field c.args.fields.now c.fields.field-index c.field-item.result c.fields-test.true c.field-item.is
     ∙ ap (λ (x : FieldType). x ∷ drop (c.fields.field-index + 1) types) (sym c.field_type.ensures) in
-    fields_stop types c.field_type.result g.met.L.GrowingLine.joins g.met.L.GrowingLine.stops d c.fields.invariant
-    c.in-Ok-tri.ensures c.in-Err-tri-rest.ensures
+    rw (p.1, p.2) (fields_stop types c.field_type.result g.met.L.GrowingLine.joins g.met.L.GrowingLine.stops d
+    c.fields.invariant
+    c.in_ok-put.ensures c.in_err-rest.ensures)
 
 pub returns : goal.returns
 returns g c =

@@ -1,3 +1,4 @@
+use Rattle.std.proofs.lemmas.Result.{err_from_is_err_and}
 use Rattle.trace_values.specs.Reading.{text_pair_at}
 use Rattle.trace_lines.specs.Lines.{pair_text}
 use Rattle.trace_lines.proofs.SpelledParts.{items_begin, items_end, items_go_on, items_stop, items_stop_first}
@@ -9,17 +10,22 @@ pairs-init g c =
 
 pub pairs-preserved : goal.pairs-preserved
 pairs-preserved g c =
-    items_go_on text_pair_at g.met.L.GrowingLine.joins c.pairs-test.true c.pairs.invariant c.in-Ok-tri.ensures
-    c.in-Ok-tri-rest.ensures
+    items_go_on text_pair_at g.met.L.GrowingLine.joins c.pairs-test.true c.pairs.invariant c.in_ok-put.ensures
+    c.in_ok-rest.ensures
 
-pub returns-in-pairs : goal.returns-in-pairs
-returns-in-pairs g c =
-    items_stop_first text_pair_at g.met.L.GrowingLine.stops c.pairs-test.true c.pairs.invariant c.in-Err-tri.ensures
+pub returns-in_err-put : goal.returns-in_err-put
+returns-in_err-put g c =
+    let p = err_from_is_err_and c.from_residual.result c.from_residual.ensures.1 in
+    rw (p.1, p.2) (items_stop_first text_pair_at g.met.L.GrowingLine.stops c.pairs-test.true c.pairs.invariant
+    c.in_err-put.ensures)
 
-pub returns-in-pairs-2 : goal.returns-in-pairs-2
-returns-in-pairs-2 g c =
-    items_stop text_pair_at g.met.L.GrowingLine.joins g.met.L.GrowingLine.stops c.pairs-test.true c.pairs.invariant
-    c.in-Ok-tri.ensures c.in-Err-tri-rest.ensures
+pub returns-in_err-rest : goal.returns-in_err-rest
+returns-in_err-rest g c =
+    let given = c.from_residual-in_err-rest in
+    let p = err_from_is_err_and given.result given.ensures.1 in
+    rw (p.1, p.2) (items_stop text_pair_at g.met.L.GrowingLine.joins g.met.L.GrowingLine.stops c.pairs-test.true
+    c.pairs.invariant
+    c.in_ok-put.ensures c.in_err-rest.ensures)
 
 pub returns : goal.returns
 returns g c =

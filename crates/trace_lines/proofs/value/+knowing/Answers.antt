@@ -1,4 +1,5 @@
 use Rattle.std.proofs.Common.{refl, arith}
+use Rattle.std.proofs.lemmas.Result.{err_from_is_err_and}
 use Rattle.trace_values.proofs.ValueSizes.{falls_2, steps_2}
 use Rattle.dial9_trace_format.specs.parts.Resolving.{as_pools}
 use Rattle.dial9_trace_format.proofs.ResolvingLemmas.{key_unresolved, value_cause, item_unresolved, item_known}
@@ -6,16 +7,18 @@ use Rattle.dial9_trace_format.proofs.ResolvingLemmas.{items_known, pair_known, p
 use Rattle.trace_lines.proofs.Depths.{item_in, key_in, value_in, most_below, most_pair_below}
 use Rattle.trace_lines.proofs.value.+knowing.Goals as goal
 
-pub item_ids_known-returns-in-loop-item : goal.item_ids_known-returns-in-loop-item
-item_ids_known-returns-in-loop-item g t c =
-    item_unresolved g.V.LineValue.value _ c.args.items.now c.loop-item.item-index c.loop-item-test.true c.item-item.is
-    c.loop-item.invariant refl c.in-Err-tri.ensures
+pub item_ids_known-returns-in_err-ids_known : goal.item_ids_known-returns-in_err-ids_known
+item_ids_known-returns-in_err-ids_known g t c =
+    let p = err_from_is_err_and c.from_residual.result c.from_residual.ensures.1 in
+    rw (p.1, p.2) (item_unresolved g.V.LineValue.value _ c.args.items.now c.loop-item.item-index c.loop-item-test.true
+    c.item-item.is
+    c.loop-item.invariant refl c.in_err-ids_known.ensures)
 
 pub item_ids_known-loop-item-preserved : goal.item_ids_known-loop-item-preserved
 item_ids_known-loop-item-preserved g t c =
     item_known g.V.LineValue.value (as_pools c.args.strings.now c.args.stacks.now) c.args.items.now
     c.loop-item.item-index c.item-item.result c.loop-item-test.true c.item-item.is c.loop-item.invariant
-    c.in-Ok-tri.ensures.0
+    c.in_ok-ids_known.ensures.0
 
 pub item_ids_known-returns : goal.item_ids_known-returns
 item_ids_known-returns g t c = (
@@ -24,21 +27,26 @@ item_ids_known-returns g t c = (
   tt,
 )
 
-pub pair_ids_known-returns-in-loop-pair : goal.pair_ids_known-returns-in-loop-pair
-pair_ids_known-returns-in-loop-pair g t c =
-    key_unresolved g.V.LineValue.value _ c.args.pairs.now c.loop-pair.pair-index (omega arith) c.pair-item.is
-    c.loop-pair.invariant refl c.in-Err-tri.ensures
+pub pair_ids_known-returns-in_err-ids_known : goal.pair_ids_known-returns-in_err-ids_known
+pair_ids_known-returns-in_err-ids_known g t c =
+    let p = err_from_is_err_and c.from_residual.result c.from_residual.ensures.1 in
+    rw (p.1, p.2) (key_unresolved g.V.LineValue.value _ c.args.pairs.now c.loop-pair.pair-index (omega arith)
+    c.pair-item.is
+    c.loop-pair.invariant refl c.in_err-ids_known.ensures)
 
-pub pair_ids_known-returns-in-loop-pair-2 : goal.pair_ids_known-returns-in-loop-pair-2
-pair_ids_known-returns-in-loop-pair-2 g t c =
-    value_cause g.V.LineValue.value _ c.args.pairs.now c.loop-pair.pair-index (omega arith) c.pair-item.is
-    c.loop-pair.invariant refl c.in-Ok-tri.ensures.0 c.in-Err-tri-2.ensures
+pub pair_ids_known-returns-in_err-ids_known-2 : goal.pair_ids_known-returns-in_err-ids_known-2
+pair_ids_known-returns-in_err-ids_known-2 g t c =
+    let given = c.from_residual-in_err-ids_known-2 in
+    let p = err_from_is_err_and given.result given.ensures.1 in
+    rw (p.1, p.2) (value_cause g.V.LineValue.value _ c.args.pairs.now c.loop-pair.pair-index (omega arith)
+    c.pair-item.is
+    c.loop-pair.invariant refl c.in_ok-ids_known.ensures.0 c.in_err-ids_known-2.ensures)
 
 pub pair_ids_known-loop-pair-preserved : goal.pair_ids_known-loop-pair-preserved
 pair_ids_known-loop-pair-preserved g t c =
     pair_known g.V.LineValue.value (as_pools c.args.strings.now c.args.stacks.now) c.args.pairs.now
     c.loop-pair.pair-index c.pair-item.result c.loop-pair-test.true c.pair-item.is c.loop-pair.invariant
-    (c.in-Ok-tri.ensures.0, c.in-Ok-tri-2.ensures.0)
+    (c.in_ok-ids_known.ensures.0, c.in_ok-ids_known-2.ensures.0)
 
 pub pair_ids_known-returns : goal.pair_ids_known-returns
 pair_ids_known-returns g t c = (
