@@ -275,14 +275,12 @@ fn put_next<W: TraceWrite>(
 {
     match large_event(decoder) {
         Some(event) => put_event(alloc, decoder, event, lines),
-        None => match push_next_lines(&mut lines.line, decoder) {
-            Ok(next) => {
-                // (a long line is sent at once, and not held beside itself)
-                tri!(lines.put_on(""));
-                Ok(next)
-            }
-            Err(_) => Err(LineFault::OutOfMemory),
-        },
+        None => {
+            let next = push_next_lines(&mut lines.line, decoder)?;
+            // (a long line is sent at once, and not held beside itself)
+            lines.put_on("")?;
+            Ok(next)
+        }
     }
 }
 
