@@ -52,7 +52,7 @@ fn push_column(
     ensures { OnOk result
         (string_bytes out.new ≡ string_bytes out.old ++ column_text fields.now place) }
 {
-    let name = tri!(column_name(alloc, fields, place));
+    let name = column_name(alloc, fields, place)?;
     let type_name = type_name(fields[place].field_type());
     write!(out, ",\n  \"{name}\" {type_name}")
 }
