@@ -110,7 +110,8 @@ COMMENTS = {
         "annotations_line": "the line of annotations",
     },
     "trace_lines ResolvedLines": {
-        "line_by_errors": "the line of an event with these unknown ids: in full where there are none, else by the first",
+        "line_by_errors": "the line of an event with these unknown ids: in full where there are none, else by the "
+                          "first",
     },
     "trace_json EventJson": {
         "items_of": "values as the items of a list",
