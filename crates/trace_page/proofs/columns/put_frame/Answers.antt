@@ -10,7 +10,7 @@ use Rattle.trace_page.proofs.columns.put_frame.Goals as goal
 pub returns-clause-tokens : goal.returns-clause-tokens
 returns-clause-tokens c =
     let texts = texts_in c.index_of_text.new.strings in
-    let i = c.in_ok-index.field-0 in
+    let i = c.in_ok-index.index in
     let text : c.as_str.result.now ≡ address_text c.args.address = search rules in
     one_stands c.put_index.result (IsIndexOf texts (address_text c.args.address)) (index_json i) _ _
     (i, subst (λ (s : List ℕ). StandsAt texts s i) text c.in_ok-index.ensures.index, refl)

@@ -9,9 +9,9 @@ use Rattle.trace_page.proofs.values.leaves.put_stack.Goals as goal
 pub returns-clause-tokens : goal.returns-clause-tokens
 returns-clause-tokens c =
     one_stands c.put_index.result (IsIndexOf (lists_in c.index_of_stack.new.stacks) c.args.stack.now)
-    (index_json c.in_ok-index_of_stack.field-0) _ _ (c.in_ok-index_of_stack.field-0, c.in_ok-index_of_stack.ensures.index, refl)
+    (index_json c.in_ok-index.index) _ _ (c.in_ok-index.index, c.in_ok-index.ensures.index, refl)
     c.put_index.ensures.tokens
 
 pub returns-clause-grown : goal.returns-clause-grown
 returns-clause-grown c =
-    so_on_ok c.put_index.result (record { strings = longer_refl _; stacks = c.in_ok-index_of_stack.ensures.grown })
+    so_on_ok c.put_index.result (record { strings = longer_refl _; stacks = c.in_ok-index.ensures.grown })
