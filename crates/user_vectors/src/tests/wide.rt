@@ -176,8 +176,8 @@ impl TraceEvent for Wide {
     }
 }
 
-// An event at 10 whose fields go by twelves: four numbers, a number with a sign, a float, a truth value, a text, a text and
-// a stack of the pools, and two that may be absent.
+// An event at 10 whose fields go by twelves: four numbers, a number with a sign, a float, a truth value, a text, a text
+// and a stack of the pools, and two that may be absent.
 macro_rules! by_twelves {
     ($alloc:expr, $text:expr, $stack:expr, $((
         $long:ident $word:ident $short:ident $byte:ident $signed:ident $float:ident
