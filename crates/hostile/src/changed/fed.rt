@@ -1,0 +1,51 @@
+//! A trace that is fed in two pieces.
+
+use crate::calls::feed;
+use crate::changed::reading::{Ended, unless_memory};
+use crate::refused::feeding::{Feeding, Form};
+use crate::refused::runs::Reference;
+use crate::same::is_same;
+use dial9_trace_format::decoder::{DecodeErrorKind, FeedDecoder};
+use std::alloc::{AllocError, Global};
+
+/// Whether a decoder that is fed the trace in two pieces cut at this place gives its frames, and ends as they do.
+pub fn gives_fed(alloc: Global, reference: &Reference<'_>, place: usize) -> bool {
+    let feeding = Feeding {
+        reference,
+        form: Form::Feed,
+        place,
+    };
+    let mut decoder = FeedDecoder::new(alloc);
+    let run = feeding.run(&mut decoder);
+    run.same
+        & (run.given == reference.owned.frames.len())
+        & is_ended(&decoder, &reference.owned.ended)
+}
+
+/// Whether a decoder that was fed stands so, and has failed by that error or not.
+fn is_ended(decoder: &FeedDecoder, ended: &Ended) -> bool {
+    let faults = match (decoder.fault(), &ended.error) {
+        (None, None) => true,
+        (Some(fault), Some(error)) => is_same(fault, error),
+        _ => false,
+    };
+    faults & (decoder.position() == ended.place)
+}
+
+/// Whether a decoder that is fed the pieces, which have no header in front, gives nothing: it has failed where there
+/// are five bytes or more.
+pub fn gives_none(alloc: Global, pieces: [&[u8]; 2]) -> Result<bool, AllocError> {
+    let mut decoder = FeedDecoder::new(alloc);
+    let mut length: usize = 0;
+    for piece in pieces {
+        length = length.saturating_add(piece.len());
+        let right = match feed(&mut decoder, piece) {
+            Ok(frames) => frames.is_empty() && length < 5,
+            Err(error) => unless_memory(error)?.kind == DecodeErrorKind::NoHeader && length >= 5,
+        };
+        if !right {
+            return Ok(false);
+        }
+    }
+    Ok(decoder.position() == 0 && decoder.version() == None)
+}
