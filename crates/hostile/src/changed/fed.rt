@@ -36,16 +36,23 @@ fn is_ended(decoder: &FeedDecoder, ended: &Ended) -> bool {
 /// are five bytes or more.
 pub fn gives_none(alloc: Global, pieces: [&[u8]; 2]) -> Result<bool, AllocError> {
     let mut decoder = FeedDecoder::new(alloc);
-    let mut length: usize = 0;
-    for piece in pieces {
-        length = length.saturating_add(piece.len());
-        let right = match feed(&mut decoder, piece) {
-            Ok(frames) => frames.is_empty() && length < 5,
-            Err(error) => unless_memory(error)?.kind == DecodeErrorKind::NoHeader && length >= 5,
-        };
-        if !right {
-            return Ok(false);
+    let first = gives_nothing(&mut decoder, pieces[0], pieces[0].len())?;
+    let whole = pieces[0].len().saturating_add(pieces[1].len());
+    let second = gives_nothing(&mut decoder, pieces[1], whole)?;
+    Ok(first & second & (decoder.position() == 0) & (decoder.version() == None))
+}
+
+/// Whether this piece, up to which there are so many bytes, gives no frame, or that error.
+fn gives_nothing(
+    decoder: &mut FeedDecoder,
+    piece: &[u8],
+    length: usize,
+) -> Result<bool, AllocError> {
+    match feed(decoder, piece) {
+        Ok(frames) => Ok(frames.is_empty() & (length < 5)),
+        Err(error) => {
+            let told = unless_memory(error)?.kind == DecodeErrorKind::NoHeader;
+            Ok(told & (length >= 5))
         }
     }
-    Ok(decoder.position() == 0 && decoder.version() == None)
 }

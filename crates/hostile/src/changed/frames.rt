@@ -53,20 +53,29 @@ fn lacks_pairs(
 /// Whether both readers give the same, as far as they may not differ: the borrowed one gives a front of the owned
 /// frames at the same places, and ends as the owned one, or before an event with a text that is not UTF-8.
 pub fn agree(alloc: Global, owned: &Owned, borrowed: &Borrowed<'_>) -> Result<bool, AllocError> {
-    let count = borrowed.frames.len();
-    if count > owned.frames.len() || !owned.places.starts_with(&borrowed.places) {
-        return Ok(false);
+    let placed = owned.places.starts_with(&borrowed.places);
+    let same = are_copies(alloc, &owned.frames, &borrowed.frames)?;
+    match owned.frames.get(borrowed.frames.len()) {
+        None => Ok(placed & same & owned.ended.is_same(&borrowed.ended)),
+        Some(next) => {
+            let replaced = holds_replaced(alloc, next)?;
+            Ok(placed & same & replaced & borrowed.ended.error.is_none())
+        }
     }
-    for i in 0..count {
-        let (frame, other) = (&owned.frames[i], &borrowed.frames[i]);
+}
+
+/// Whether the borrowed frames are a front of the owned ones.
+fn are_copies(
+    alloc: Global,
+    owned: &[DecodedFrame],
+    borrowed: &[DecodedFrameRef<'_>],
+) -> Result<bool, AllocError> {
+    for (frame, other) in owned.iter().zip(borrowed) {
         if !is_copy(alloc, frame, other)? && !lacks_pairs(alloc, frame, other)? {
             return Ok(false);
         }
     }
-    match owned.frames.get(count) {
-        None => Ok(owned.ended.is_same(&borrowed.ended)),
-        Some(next) => Ok(borrowed.ended.error.is_none() && holds_replaced(alloc, next)?),
-    }
+    Ok(borrowed.len() <= owned.len())
 }
 
 /// Whether a frame is an event with a text in which something was replaced.

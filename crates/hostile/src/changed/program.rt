@@ -27,12 +27,15 @@ const FORMS: [DumpForm; 3] = [
 /// Changes each trace that an argument names, or all where there is none.
 pub fn run_changed(rt: &(impl AllocGlobal + Env + Print)) -> anyhow::Result<bool> {
     let words: Vec<String> = env::args(rt)?.collect(rt.alloc())?;
-    let names = words.get(1..).unwrap_or(&[]);
+    run_named(rt, words.get(1..).unwrap_or(&[]))
+}
+
+fn run_named(rt: &(impl AllocGlobal + Print), names: &[String]) -> anyhow::Result<bool> {
     let mut good = true;
     for worked in ALL {
         let name = name_of(worked);
         if names.is_empty() || names.iter().any(|it| it.as_str() == name) {
-            good = run_worked(rt, worked)? && good;
+            good &= run_worked(rt, worked)?;
         }
     }
     Ok(good)
@@ -41,21 +44,21 @@ pub fn run_changed(rt: &(impl AllocGlobal + Env + Print)) -> anyhow::Result<bool
 /// Changes one trace in each way, and prints what comes of it.
 fn run_worked(rt: &(impl AllocGlobal + Print), worked: Worked) -> anyhow::Result<bool> {
     let alloc = rt.alloc();
-    let bytes = write_parts(alloc, &parts_of(alloc, worked)?)?;
     let mut changed = Changed {
         alloc,
         tally: Tally::new(),
         lines: Vec::new(alloc),
     };
-    changed.cut(&bytes)?;
-    changed.replace(&bytes)?;
-    println!(rt; "{}: {}", name_of(worked), changed.tally)?;
-    println!(rt;
-        "{}: dumps {}",
-        name_of(worked),
-        hex::encode(alloc, &Md5::digest(&changed.lines[..]))?
-    )?;
+    changed.change(&write_parts(alloc, &parts_of(alloc, worked)?)?)?;
+    tell(rt, name_of(worked), &changed)?;
     Ok(changed.tally.is_right())
+}
+
+fn tell(rt: &(impl AllocGlobal + Print), name: &str, changed: &Changed) -> anyhow::Result<()> {
+    println!(rt; "{name}: {}", changed.tally)?;
+    let digest = hex::encode(rt.alloc(), &Md5::digest(&changed.lines[..]))?;
+    println!(rt; "{name}: dumps {digest}")?;
+    Ok(())
 }
 
 /// What the changed traces show, and the lines of the dumps of some of them.
@@ -67,6 +70,12 @@ struct Changed {
 }
 
 impl Changed {
+    /// Changes the trace in each way.
+    fn change(&mut self, bytes: &[u8]) -> Result<(), AllocError> {
+        self.cut(bytes)?;
+        self.replace(bytes)
+    }
+
     /// Cuts the trace at every place.
     fn cut(&mut self, bytes: &[u8]) -> Result<(), AllocError> {
         for place in 0..=bytes.len() {
@@ -116,22 +125,36 @@ impl Changed {
 
 /// What a trace shows: all readers are run to their end.
 fn shown(alloc: Global, bytes: &[u8], place: usize) -> Result<Shown, AllocError> {
-    let place = place.min(bytes.len());
-    let right = bytes.len() >= 5 && bytes.starts_with(b"TRC\0");
     match reference_of(alloc, bytes)? {
-        None => Ok(Shown {
-            end: End::Headless,
-            frames: 0,
-            events: 0,
-            right: !right & gives_none(alloc, [&bytes[..place], &bytes[place..]])?,
-        }),
-        Some(reference) => Ok(Shown {
-            end: end_of(bytes, &reference.owned.ended),
-            frames: reference.owned.frames.len(),
-            events: reference.events.len(),
-            right: right & reads_alike(alloc, &reference, place)?,
-        }),
+        None => shown_headless(alloc, bytes, place),
+        Some(reference) => shown_of(alloc, &reference, place),
     }
+}
+
+fn has_header(bytes: &[u8]) -> bool {
+    bytes.len() >= 5 && bytes.starts_with(b"TRC\0")
+}
+
+fn shown_headless(alloc: Global, bytes: &[u8], place: usize) -> Result<Shown, AllocError> {
+    let pieces = [
+        &bytes[..place.min(bytes.len())],
+        &bytes[place.min(bytes.len())..],
+    ];
+    Ok(Shown {
+        end: End::Headless,
+        frames: 0,
+        events: 0,
+        right: gives_none(alloc, pieces)? & !has_header(bytes),
+    })
+}
+
+fn shown_of(alloc: Global, reference: &Reference<'_>, place: usize) -> Result<Shown, AllocError> {
+    Ok(Shown {
+        end: end_of(reference.bytes, &reference.owned.ended),
+        frames: reference.owned.frames.len(),
+        events: reference.events.len(),
+        right: reads_alike(alloc, reference, place)? & has_header(reference.bytes),
+    })
 }
 
 fn end_of(bytes: &[u8], ended: &Ended) -> End {

@@ -33,34 +33,73 @@ fn first_unknown(
     fields: &[FieldValueRef<'_>],
 ) -> Result<Option<DeserError>, AllocError> {
     let mut left = Vec::new(alloc);
-    for field in fields.iter().rev() {
-        left.push(field)?;
-    }
+    first_unknown_in(reader, fields, &mut left)
+}
+
+/// The same, by the list of what is left to look at.
+fn first_unknown_in<'v, 'a>(
+    reader: &Decoder<'_>,
+    fields: &'v [FieldValueRef<'a>],
+    left: &mut Vec<&'v FieldValueRef<'a>>,
+) -> Result<Option<DeserError>, AllocError> {
+    put_items(left, fields)?;
     for _ in 0..MOST {
-        match left.pop() {
-            None => break,
-            Some(FieldValueRef::PooledString(id)) if reader.string_pool().get(*id).is_none() => {
-                return Ok(Some(DeserError::UnknownString(*id)));
-            }
-            Some(FieldValueRef::PooledStackFrames(id)) if reader.stack_pool().get(*id).is_none() =>
-                {
-                    return Ok(Some(DeserError::UnknownStack(*id)));
-                }
-            Some(FieldValueRef::List(items)) => {
-                for item in items_of(items).iter().rev() {
-                    left.push(item)?;
-                }
-            }
-            Some(FieldValueRef::Map(pairs)) => {
-                for (key, value) in pairs_of(pairs).iter().rev() {
-                    left.push(value)?;
-                    left.push(key)?;
-                }
-            }
-            Some(_) => {}
+        let Some(value) = left.pop() else {
+            break;
+        };
+        let unknown = unknown_id(reader, value);
+        if unknown.is_some() {
+            return Ok(unknown);
         }
+        put_parts(left, value)?;
     }
     Ok(None)
+}
+
+/// The refusal that tells the value's id, if the pools do not hold it.
+fn unknown_id(reader: &Decoder<'_>, value: &FieldValueRef<'_>) -> Option<DeserError> {
+    match value {
+        FieldValueRef::PooledString(id) if reader.string_pool().get(*id).is_none() => {
+            Some(DeserError::UnknownString(*id))
+        }
+        FieldValueRef::PooledStackFrames(id) if reader.stack_pool().get(*id).is_none() => {
+            Some(DeserError::UnknownStack(*id))
+        }
+        _ => None,
+    }
+}
+
+/// Puts the values that a value holds before what is left, in order.
+fn put_parts<'v, 'a>(
+    left: &mut Vec<&'v FieldValueRef<'a>>,
+    value: &'v FieldValueRef<'a>,
+) -> Result<(), AllocError> {
+    match value {
+        FieldValueRef::List(items) => put_items(left, items_of(items)),
+        FieldValueRef::Map(pairs) => put_pairs(left, pairs_of(pairs)),
+        _ => Ok(()),
+    }
+}
+
+fn put_items<'v, 'a>(
+    left: &mut Vec<&'v FieldValueRef<'a>>,
+    items: &'v [FieldValueRef<'a>],
+) -> Result<(), AllocError> {
+    for item in items.iter().rev() {
+        left.push(item)?;
+    }
+    Ok(())
+}
+
+fn put_pairs<'v, 'a>(
+    left: &mut Vec<&'v FieldValueRef<'a>>,
+    pairs: &'v [(FieldValueRef<'a>, FieldValueRef<'a>)],
+) -> Result<(), AllocError> {
+    for (key, value) in pairs.iter().rev() {
+        left.push(value)?;
+        left.push(key)?;
+    }
+    Ok(())
 }
 
 /// Whether the entries are the event's name and time, and then its fields.
@@ -73,12 +112,18 @@ fn stands_for(
     let [name, time, entries @ ..] = resolved.entries() else {
         return Ok(false);
     };
-    let head = name.0.as_str() == "event"
-        && is_text(&name.1, event.name)
-        && time.0.as_str() == "timestamp_ns"
-        && is_number(&time.1, event.timestamp_ns);
+    let head = is_head(event, name, time);
     let named = are_named(event.schema, entries);
-    Ok(head && named && are_fields(alloc, reader, event.fields, entries)?)
+    Ok(head & named & are_fields(alloc, reader, event.fields, entries)?)
+}
+
+fn is_head(
+    event: &RawEvent<'_, '_>,
+    name: &(String, ResolvedValue),
+    time: &(String, ResolvedValue),
+) -> bool {
+    let named = (name.0.as_str() == "event") & is_text(&name.1, event.name);
+    named & (time.0.as_str() == "timestamp_ns") & is_number(&time.1, event.timestamp_ns)
 }
 
 /// Whether the entries have the names of the schema's fields.
@@ -102,7 +147,8 @@ fn are_fields<'v, 'a>(
     for (field, entry) in fields.iter().zip(entries) {
         left.push((field, &entry.1))?;
     }
-    Ok(fields.len() == entries.len() && are_values(reader, left)?)
+    let same = are_values(reader, &mut left)?;
+    Ok(same & (fields.len() == entries.len()))
 }
 
 fn is_text(value: &ResolvedValue, text: &str) -> bool {
@@ -122,26 +168,35 @@ fn is_number(value: &ResolvedValue, number: u64) -> bool {
 /// Whether each value stands for the one beside it.
 fn are_values<'v, 'a>(
     reader: &Decoder<'_>,
-    mut left: Vec<(&'v FieldValueRef<'a>, &'v ResolvedValue)>,
+    left: &mut Vec<(&'v FieldValueRef<'a>, &'v ResolvedValue)>,
 ) -> Result<bool, AllocError> {
     for _ in 0..MOST {
         let Some((value, found)) = left.pop() else {
             return Ok(true);
         };
-        let right = match (value, found) {
-            (FieldValueRef::List(items), ResolvedValue::List(others)) => {
-                push_items(&mut left, items_of(items), others)?
-            }
-            (FieldValueRef::Map(pairs), ResolvedValue::Map(others)) => {
-                push_pairs(&mut left, pairs_of(pairs), others)?
-            }
-            _ => is_value(reader, value, found),
-        };
-        if !right {
+        if !stands(reader, left, value, found)? {
             return Ok(false);
         }
     }
     Ok(false)
+}
+
+/// Whether a value stands for the one beside it; what both hold is put beside each other.
+fn stands<'v, 'a>(
+    reader: &Decoder<'_>,
+    left: &mut Vec<(&'v FieldValueRef<'a>, &'v ResolvedValue)>,
+    value: &'v FieldValueRef<'a>,
+    found: &'v ResolvedValue,
+) -> Result<bool, AllocError> {
+    match (value, found) {
+        (FieldValueRef::List(items), ResolvedValue::List(others)) => {
+            push_items(left, items_of(items), others)
+        }
+        (FieldValueRef::Map(pairs), ResolvedValue::Map(others)) => {
+            push_pairs(left, pairs_of(pairs), others)
+        }
+        _ => Ok(is_simple(value, found) || is_long(value, found) || is_held(reader, value, found)),
+    }
 }
 
 /// Puts items beside others, where they are as many.
@@ -169,26 +224,40 @@ fn push_pairs<'v, 'a>(
     Ok(pairs.len() == others.len())
 }
 
-/// Whether a value that holds no others stands for another.
-fn is_value(reader: &Decoder<'_>, value: &FieldValueRef<'_>, found: &ResolvedValue) -> bool {
+/// Whether a value of few bytes stands for another.
+fn is_simple(value: &FieldValueRef<'_>, found: &ResolvedValue) -> bool {
     match (value, found) {
         (FieldValueRef::I64(a), ResolvedValue::I64(b)) => *a == *b,
         (FieldValueRef::F64(a), ResolvedValue::F64(b)) => *a == *b,
         (FieldValueRef::Bool(a), ResolvedValue::Bool(b)) => *a == *b,
         (FieldValueRef::Varint(a), ResolvedValue::Varint(b)) => *a == *b,
+        (FieldValueRef::None, ResolvedValue::None) => true,
+        _ => false,
+    }
+}
+
+/// Whether a value of many bytes stands for another.
+fn is_long(value: &FieldValueRef<'_>, found: &ResolvedValue) -> bool {
+    match (value, found) {
         (FieldValueRef::String(a), ResolvedValue::String(b)) => *a == b.as_str(),
         (FieldValueRef::Bytes(a), ResolvedValue::Bytes(b)) => *a == b.as_slice(),
+        (FieldValueRef::StackFrames(a), ResolvedValue::StackFrames(b)) => {
+            a.iter().eq(b.iter().copied())
+        }
+        (FieldValueRef::StringMap(a), ResolvedValue::StringMap(b)) => are_texts(a, b),
+        _ => false,
+    }
+}
+
+/// Whether an id stands for what the pools hold under it.
+fn is_held(reader: &Decoder<'_>, value: &FieldValueRef<'_>, found: &ResolvedValue) -> bool {
+    match (value, found) {
         (FieldValueRef::PooledString(id), ResolvedValue::String(b)) => {
             reader.string_pool().get(*id) == Some(b.as_str())
         }
         (FieldValueRef::PooledStackFrames(id), ResolvedValue::StackFrames(b)) => {
             reader.stack_pool().get(*id) == Some(b.as_slice())
         }
-        (FieldValueRef::StackFrames(a), ResolvedValue::StackFrames(b)) => {
-            a.iter().eq(b.iter().copied())
-        }
-        (FieldValueRef::StringMap(a), ResolvedValue::StringMap(b)) => are_texts(a, b),
-        (FieldValueRef::None, ResolvedValue::None) => true,
         _ => false,
     }
 }

@@ -1,5 +1,6 @@
 //! Owned values beside borrowed ones.
 
+use crate::refused::sweep::is_equal;
 use dial9_trace_format::types::{FieldValue, FieldValueRef, StringMapRef};
 use std::alloc::{AllocError, Global};
 use trace_values::types::parts::counted_at;
@@ -11,40 +12,59 @@ pub fn differ_by_maps(
     owned: &[FieldValue],
     borrowed: &[FieldValueRef<'_>],
 ) -> Result<bool, AllocError> {
-    let mut maps: usize = 0;
+    let mut lacks = false;
     for (value, other) in owned.iter().zip(borrowed) {
-        let same = match (value, other) {
-            (FieldValue::StringMap(pairs), FieldValueRef::StringMap(map)) => {
-                if map.iter().len() < map.count() as usize {
-                    maps = maps.saturating_add(1);
-                }
-                are_pairs(pairs, map) && is_front(alloc, pairs, other)?
-            }
-            _ => *value == other.to_owned(alloc)?,
-        };
-        if !same {
+        if !stands_for(alloc, value, other)? {
             return Ok(false);
         }
+        lacks |= lacks_pairs(other);
     }
-    Ok(maps > 0 && owned.len() == borrowed.len())
+    Ok(lacks & (owned.len() == borrowed.len()))
+}
+
+/// Whether the value is a map of texts with a pair that is no text.
+fn lacks_pairs(value: &FieldValueRef<'_>) -> bool {
+    match value {
+        FieldValueRef::StringMap(map) => map.iter().len() < map.count() as usize,
+        _ => false,
+    }
+}
+
+/// Whether the value is what the borrowed one stands for.
+fn stands_for(
+    alloc: Global,
+    value: &FieldValue,
+    other: &FieldValueRef<'_>,
+) -> Result<bool, AllocError> {
+    match (value, other) {
+        (FieldValue::StringMap(pairs), FieldValueRef::StringMap(map)) => {
+            Ok(is_front(alloc, pairs, other)? & are_pairs(pairs, map))
+        }
+        _ => is_equal(other.to_owned(alloc), value),
+    }
 }
 
 /// Whether the pairs are all those of the map, by its raw data.
 fn are_pairs(pairs: &[(Vec<u8>, Vec<u8>)], map: &StringMapRef<'_>) -> bool {
     let mut rest = map.raw_data();
     for (key, value) in pairs {
-        let Ok((raw_key, after)) = counted_at(rest) else {
-            return false;
-        };
-        let Ok((raw_value, after)) = counted_at(after) else {
-            return false;
-        };
-        if key.as_slice() != raw_key || value.as_slice() != raw_value {
-            return false;
+        match after_bytes(rest, key) {
+            Some(after) => match after_bytes(after, value) {
+                Some(after) => rest = after,
+                None => return false,
+            },
+            None => return false,
         }
-        rest = after;
     }
     rest.is_empty() && map.count() as usize == pairs.len()
+}
+
+/// What is left after these bytes with their length in front, if they stand there.
+fn after_bytes<'r>(rest: &'r [u8], wanted: &[u8]) -> Option<&'r [u8]> {
+    match counted_at(rest) {
+        Ok((found, after)) if found == wanted => Some(after),
+        _ => None,
+    }
 }
 
 /// Whether `to_owned` of the map gives the pairs before the first that is no text.
@@ -53,12 +73,16 @@ fn is_front(
     pairs: &[(Vec<u8>, Vec<u8>)],
     map: &FieldValueRef<'_>,
 ) -> Result<bool, AllocError> {
-    let FieldValue::StringMap(front) = map.to_owned(alloc)? else {
-        return Ok(false);
-    };
-    let next = match pairs.get(front.len()) {
+    match map.to_owned(alloc)? {
+        FieldValue::StringMap(front) => Ok(is_front_of(&front, pairs)),
+        _ => Ok(false),
+    }
+}
+
+fn is_front_of(front: &[(Vec<u8>, Vec<u8>)], pairs: &[(Vec<u8>, Vec<u8>)]) -> bool {
+    let ended = match pairs.get(front.len()) {
         Some((key, value)) => str::from_utf8(key).is_err() || str::from_utf8(value).is_err(),
         None => true,
     };
-    Ok(next && pairs.starts_with(&front))
+    ended && pairs.starts_with(front)
 }

@@ -34,8 +34,8 @@ const PLAIN: [Plain; 7] = [
 ];
 
 /// Events of types, each with what it takes to be written the first time and once more.
-pub fn of_types(alloc: Global) -> Result<Vec<Ask>, AllocError> {
-    let mut asks = vec![in alloc; Ask::FastSlot(FastSlot { time: 1_000_000 })]?;
+pub fn push_types(asks: &mut Vec<Ask>) -> Result<(), AllocError> {
+    asks.push(Ask::FastSlot(FastSlot { time: 1_000_000 }))?;
     for time in [1_000_001, 1_000_002u64] {
         asks.push(Ask::FastSlot(FastSlot { time }))?;
         for plain in PLAIN {
@@ -43,7 +43,7 @@ pub fn of_types(alloc: Global) -> Result<Vec<Ask>, AllocError> {
         }
     }
     asks.push(Ask::Flush)?;
-    Ok(asks)
+    Ok(())
 }
 
 fn plain_at(plain: Plain, time: u64) -> Ask {
@@ -82,34 +82,30 @@ const OWNING: [Owning; 9] = [
 ];
 
 /// The same of types whose values own memory.
-pub fn of_types_that_own(alloc: Global) -> Result<Vec<Ask>, AllocError> {
-    let mut asks = Vec::new(alloc);
+pub fn push_types_that_own(alloc: Global, asks: &mut Vec<Ask>) -> Result<(), AllocError> {
     for owning in OWNING {
         asks.push(owning_of(alloc, owning)?)?;
     }
     asks.push(Ask::Flush)?;
-    Ok(asks)
+    Ok(())
 }
 
 fn owning_of(alloc: Global, owning: Owning) -> Result<Ask, AllocError> {
     match owning {
-        Owning::Texts(time) => Ok(Ask::Texts(texts(alloc, time)?)),
-        Owning::Stacks(time) => Ok(Ask::Stacks(stacks(alloc, time)?)),
-        Owning::Dynamic(time) => {
-            let table = FieldValue::Map(Vec::new(alloc));
-            Ok(Ask::Dynamic(dynamic(alloc, time, table)?))
-        }
-        Owning::Options(time) => Ok(Ask::Options(options(alloc, time)?)),
-        Owning::Misfit(time) => Ok(Ask::Dynamic(dynamic(alloc, time, FieldValue::None)?)),
+        Owning::Texts(time) => texts(alloc, time),
+        Owning::Stacks(time) => stacks(alloc, time),
+        Owning::Dynamic(time) => dynamic(alloc, time, FieldValue::Map(Vec::new(alloc))),
+        Owning::Options(time) => options(alloc, time),
+        Owning::Misfit(time) => dynamic(alloc, time, FieldValue::None),
     }
 }
 
-fn dynamic(alloc: Global, time: u64, table: FieldValue) -> Result<Dynamic, AllocError> {
-    Ok(Dynamic {
+fn dynamic(alloc: Global, time: u64, table: FieldValue) -> Result<Ask, AllocError> {
+    Ok(Ask::Dynamic(Dynamic {
         time,
         items: nested(alloc)?,
         table,
-    })
+    }))
 }
 
 fn poll(time: u64, cpu: Option<u32>) -> Poll {
@@ -160,13 +156,13 @@ fn wide_event(time: u64) -> Wide {
     }
 }
 
-fn texts(alloc: Global, time: u64) -> Result<Texts, AllocError> {
-    Ok(Texts {
+fn texts(alloc: Global, time: u64) -> Result<Ask, AllocError> {
+    Ok(Ask::Texts(Texts {
         time,
         text: String::from_str(alloc, "some text of some length")?,
         blob: Vec::from_slice(alloc, b"\xff\xfe")?,
         pairs: pairs(alloc)?,
-    })
+    }))
 }
 
 /// A list of one pair of texts.
@@ -176,20 +172,20 @@ fn pairs(alloc: Global) -> Result<Vec<(String, String)>, AllocError> {
     Ok(vec![in alloc; (key, value)]?)
 }
 
-fn stacks(alloc: Global, time: u64) -> Result<Stacks, AllocError> {
-    Ok(Stacks {
+fn stacks(alloc: Global, time: u64) -> Result<Ask, AllocError> {
+    Ok(Ask::Stacks(Stacks {
         time,
         frames: StackFrames::from_slice(alloc, &[7, 8])?,
         stack: InternedStackFrames::from_raw(0),
-    })
+    }))
 }
 
-fn options(alloc: Global, time: u64) -> Result<Options, AllocError> {
-    Ok(Options {
+fn options(alloc: Global, time: u64) -> Result<Ask, AllocError> {
+    Ok(Ask::Options(Options {
         time,
         numbers: optional_numbers(),
         texts: optional_texts(alloc)?,
-    })
+    }))
 }
 
 fn optional_numbers() -> OptionalNumbers {
@@ -205,12 +201,15 @@ fn optional_numbers() -> OptionalNumbers {
 }
 
 fn optional_texts(alloc: Global) -> Result<OptionalTexts, AllocError> {
+    let text = String::from_str(alloc, "a text")?;
+    let frames = StackFrames::from_slice(alloc, &[1])?;
+    let pairs = pairs(alloc)?;
     Ok(OptionalTexts {
-        text: Some(String::from_str(alloc, "a text")?),
+        text: Some(text),
         blob: None,
-        frames: Some(StackFrames::from_slice(alloc, &[1])?),
+        frames: Some(frames),
         label: Some(InternedString::from_raw(0)),
         stack: None,
-        pairs: Some(pairs(alloc)?),
+        pairs: Some(pairs),
     })
 }

@@ -104,12 +104,15 @@ impl Listed {
 
     /// Whether one reply is a refusal for want of memory, and all others, and the bytes, are those of the other calls.
     fn leaves_one_out(&self, alloc: Global, replies: &[Reply], encoder: &Encoder<Told>) -> bool {
-        match (replies.iter().position(is_lack), over_array(alloc)) {
-            (Some(left_out), Ok(mut other)) => {
+        let Some(left_out) = replies.iter().position(is_lack) else {
+            return false;
+        };
+        match over_array(alloc) {
+            Ok(mut other) => {
                 let answered = self.answers_others(&mut other, replies, left_out);
                 answered & has_written(encoder, &other)
             }
-            _ => false,
+            Err(_) => false,
         }
     }
 

@@ -2,6 +2,7 @@
 
 use crate::refused::tallies::Tallies;
 use crate::refused::verdict::Counts;
+use std::alloc::{AllocError, Global};
 use std::hash::RandomState;
 use std::io;
 use std::io::Read;
@@ -18,14 +19,10 @@ impl RandomSource for Sevens {
     }
 }
 
-/// Tries the calls of the worked traces and of those on standard input, one a line, two hexadecimal digits a byte.
+/// Tries the calls of the worked traces and of those on standard input, and tells what came of it.
 pub fn run_refused(rt: &(impl AllocGlobal + Input + Print), refuses: bool) -> anyhow::Result<bool> {
-    let alloc = rt.alloc();
     let mut tallies = Tallies::new(RandomState::new(&Sevens)?);
-    tallies.try_samples(alloc)?;
-    for worked in ALL {
-        tallies.try_worked(alloc, worked)?;
-    }
+    try_worked(rt.alloc(), &mut tallies)?;
     let traces = try_lines(rt, &mut tallies)?;
     let heap = if refuses {
         "growths are refused"
@@ -36,7 +33,15 @@ pub fn run_refused(rt: &(impl AllocGlobal + Input + Print), refuses: bool) -> an
     tell(rt, refuses, &tallies)
 }
 
-/// Tries the traces on standard input, and answers how many they are.
+fn try_worked(alloc: Global, tallies: &mut Tallies) -> Result<(), AllocError> {
+    tallies.try_samples(alloc)?;
+    for worked in ALL {
+        tallies.try_worked(alloc, worked)?;
+    }
+    Ok(())
+}
+
+/// Tries the traces on standard input, one a line, two hexadecimal digits a byte, and answers how many they are.
 fn try_lines(rt: &(impl AllocGlobal + Input), tallies: &mut Tallies) -> anyhow::Result<u64> {
     let mut input = Vec::new(rt.alloc());
     rt.reader().read_to_end(&mut input)?;
@@ -66,9 +71,14 @@ fn tell(rt: &impl Print, refuses: bool, tallies: &Tallies) -> anyhow::Result<boo
         ("values", &tallies.values),
         ("schemas and registries", &tallies.schemas),
     ] {
-        println!(rt; "{name}: {counts}")?;
-        good = counts.is_right(refuses, true) && good;
+        tell_one(rt, name, counts)?;
+        good &= counts.is_right(refuses, true);
     }
-    println!(rt; "calls that take no memory: {}", tallies.free)?;
-    Ok(tallies.free.is_right(refuses, false) && good)
+    tell_one(rt, "calls that take no memory", &tallies.free)?;
+    Ok(tallies.free.is_right(refuses, false) & good)
+}
+
+fn tell_one(rt: &impl Print, name: &str, counts: &Counts) -> anyhow::Result<()> {
+    println!(rt; "{name}: {counts}")?;
+    Ok(())
 }

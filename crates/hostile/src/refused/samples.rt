@@ -86,12 +86,19 @@ const WITH_SCHEMAS: [Given; 10] = [
 ];
 
 fn with_schemas(alloc: Global) -> Result<Vec<Call>, AllocError> {
-    let plain = schema_of(alloc, "Ev", &[FieldType::Varint])?;
     let mut calls = Vec::new(alloc);
+    match push_given(alloc, &mut calls) {
+        Ok(()) => Ok(calls),
+        Err(error) => Err(error),
+    }
+}
+
+fn push_given(alloc: Global, calls: &mut Vec<Call>) -> Result<(), AllocError> {
+    let plain = schema_of(alloc, "Ev", &[FieldType::Varint])?;
     for given in WITH_SCHEMAS {
         calls.push(call_of(alloc, &plain, given)?)?;
     }
-    Ok(calls)
+    Ok(())
 }
 
 fn call_of(alloc: Global, plain: &Schema, given: Given) -> Result<Call, AllocError> {
@@ -182,30 +189,58 @@ const TEXTS: [&str; 4] = [
     "",
 ];
 
+/// Stacks that are interned.
+const STACKS: [&[u64]; 4] = [&[1, 2, 3], &[1, 2, 3], &[], &[7; 20]];
+
 /// Calls with pools.
 pub fn with_pools(alloc: Global) -> Result<Vec<Call>, AllocError> {
     let mut calls = Vec::new(alloc);
-    for text in TEXTS {
-        calls.push(Call::InternString(String::from_str(alloc, text)?))?;
+    match push_pools(alloc, &mut calls) {
+        Ok(()) => Ok(calls),
+        Err(error) => Err(error),
     }
-    for addresses in [&[1, 2, 3][..], &[1, 2, 3], &[], &[7; 20]] {
-        calls.push(Call::InternStack(Vec::from_slice(alloc, addresses)?))?;
+}
+
+fn push_pools(alloc: Global, calls: &mut Vec<Call>) -> Result<(), AllocError> {
+    for text in TEXTS {
+        push_text(alloc, text, calls)?;
+    }
+    for addresses in STACKS {
+        push_stack(alloc, addresses, calls)?;
     }
     calls.push(text_pool(alloc)?)?;
     calls.push(stack_pool(alloc)?)?;
-    Ok(calls)
+    Ok(())
+}
+
+/// The call that interns a text.
+pub fn push_text(alloc: Global, text: &str, calls: &mut Vec<Call>) -> Result<(), AllocError> {
+    calls.push(Call::InternString(String::from_str(alloc, text)?))?;
+    Ok(())
+}
+
+/// The call that interns a stack.
+pub fn push_stack(
+    alloc: Global,
+    addresses: &[u64],
+    calls: &mut Vec<Call>,
+) -> Result<(), AllocError> {
+    calls.push(Call::InternStack(Vec::from_slice(alloc, addresses)?))?;
+    Ok(())
 }
 
 /// A pool of a text that is not UTF-8, and of an empty one under the same id.
 fn text_pool(alloc: Global) -> Result<Call, AllocError> {
-    let mut entries = Vec::new(alloc);
-    for bytes in [&b"no \xff text"[..], b""] {
-        entries.push(PoolEntry {
-            pool_id: 9,
-            bytes: Vec::from_slice(alloc, bytes)?,
-        })?;
-    }
-    Ok(Call::StringPool(entries))
+    let first = text_entry(alloc, b"no \xff text")?;
+    let second = text_entry(alloc, b"")?;
+    Ok(Call::StringPool(Vec::from_array(alloc, [first, second])?))
+}
+
+fn text_entry(alloc: Global, bytes: &[u8]) -> Result<PoolEntry, AllocError> {
+    Ok(PoolEntry {
+        pool_id: 9,
+        bytes: Vec::from_slice(alloc, bytes)?,
+    })
 }
 
 /// A pool of one stack.
@@ -220,17 +255,23 @@ fn stack_pool(alloc: Global) -> Result<Call, AllocError> {
 /// Many calls that are new each time, so that each table grows more than once.
 fn many(alloc: Global) -> Result<Vec<Call>, AllocError> {
     let mut calls = Vec::new(alloc);
-    for number in 0..16u64 {
-        push_new(alloc, number, &mut calls)?;
+    match push_many(alloc, &mut calls) {
+        Ok(()) => Ok(calls),
+        Err(error) => Err(error),
     }
-    Ok(calls)
 }
 
-fn push_new(alloc: Global, number: u64, calls: &mut Vec<Call>) -> Result<(), AllocError> {
-    let name = format!(in alloc; "S{number}")?;
-    let schema = schema_of(alloc, &name, &[FieldType::Bool])?;
-    calls.push(Call::Register(schema))?;
-    calls.push(Call::InternString(name))?;
-    calls.push(Call::InternStack(vec![in alloc; number]?))?;
+fn push_many(alloc: Global, calls: &mut Vec<Call>) -> Result<(), AllocError> {
+    for number in 0..16u64 {
+        let name = format!(in alloc; "S{number}")?;
+        push_schema(alloc, &name, calls)?;
+        push_text(alloc, &name, calls)?;
+        push_stack(alloc, &[number], calls)?;
+    }
+    Ok(())
+}
+
+fn push_schema(alloc: Global, name: &str, calls: &mut Vec<Call>) -> Result<(), AllocError> {
+    calls.push(Call::Register(schema_of(alloc, name, &[FieldType::Bool])?))?;
     Ok(())
 }

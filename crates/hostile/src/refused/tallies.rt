@@ -3,9 +3,9 @@
 use crate::calls::{all_owned, decoder_of};
 use crate::refused::asks::{Ask, asks_of};
 use crate::refused::copies::{sweep_frame, sweep_ref};
-use crate::refused::dumping::{DUMPS, dump_of};
+use crate::refused::dumping::{DUMPS, Dump, dump_of};
 use crate::refused::encoding::{Hashing, InArray, InList, Turn, turn_of};
-use crate::refused::events::{of_types, of_types_that_own};
+use crate::refused::events::{push_types, push_types_that_own};
 use crate::refused::feeding::{Feeding, Form};
 use crate::refused::free::{
     OfEncoders, OfRegistries, sweep_decoders, sweep_events, sweep_free_values,
@@ -90,14 +90,28 @@ impl Tallies {
     /// Tries calls of each kind that no trace is needed for.
     pub fn try_samples(&mut self, alloc: Global) -> Result<(), AllocError> {
         sweep_row(alloc, &mut self.row)?;
-        self.try_asks(alloc, of_types(alloc)?)?;
-        self.try_asks(alloc, of_types_that_own(alloc)?)?;
+        self.try_events(alloc)?;
         for sample in SAMPLES {
             self.try_calls(alloc, calls_of(alloc, sample)?)?;
         }
         self.try_new(alloc);
-        sweep_value(alloc, &nested(alloc)?, &mut self.values);
         sweep_free_values(alloc, &mut self.free);
+        self.try_nested(alloc)
+    }
+
+    /// Tries events of types.
+    fn try_events(&mut self, alloc: Global) -> Result<(), AllocError> {
+        let mut types = Vec::new(alloc);
+        push_types(&mut types)?;
+        self.try_asks(alloc, types)?;
+        let mut types = Vec::new(alloc);
+        push_types_that_own(alloc, &mut types)?;
+        self.try_asks(alloc, types)
+    }
+
+    /// Tries a value that holds others.
+    fn try_nested(&mut self, alloc: Global) -> Result<(), AllocError> {
+        sweep_value(alloc, &nested(alloc)?, &mut self.values);
         Ok(())
     }
 
@@ -164,12 +178,17 @@ impl Tallies {
     /// Tries all that reads bytes.
     fn try_bytes(&mut self, alloc: Global, bytes: &[u8]) -> Result<(), AllocError> {
         for dump in DUMPS {
-            sweep(alloc, &dump_of(alloc, bytes, dump)?, &mut self.dumps);
+            self.try_dump(alloc, bytes, dump)?;
         }
         match reference_of(alloc, bytes)? {
             Some(reference) => self.try_read(alloc, &reference),
             None => Ok(()),
         }
+    }
+
+    fn try_dump(&mut self, alloc: Global, bytes: &[u8], dump: Dump) -> Result<(), AllocError> {
+        sweep(alloc, &dump_of(alloc, bytes, dump)?, &mut self.dumps);
+        Ok(())
     }
 
     /// Tries all that reads the bytes of a trace, and copies what it gives.
@@ -199,10 +218,19 @@ impl Tallies {
 
     /// Has an encoder go on after a trace.
     fn try_resumed(&mut self, alloc: Global, bytes: &[u8]) -> Result<(), AllocError> {
-        for hashing in [Hashing::Fixed, Hashing::Seeded(self.state)] {
-            if let Some(trial) = after_trace(alloc, bytes, with_pools(alloc)?, hashing)? {
-                sweep(alloc, &trial, &mut self.resumed);
-            }
+        self.try_resumed_by(alloc, bytes, Hashing::Fixed)?;
+        self.try_resumed_by(alloc, bytes, Hashing::Seeded(self.state))
+    }
+
+    fn try_resumed_by(
+        &mut self,
+        alloc: Global,
+        bytes: &[u8],
+        hashing: Hashing,
+    ) -> Result<(), AllocError> {
+        match after_trace(alloc, bytes, with_pools(alloc)?, hashing)? {
+            Some(trial) => sweep(alloc, &trial, &mut self.resumed),
+            None => {}
         }
         Ok(())
     }

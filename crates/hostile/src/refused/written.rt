@@ -1,5 +1,7 @@
 //! The calls that would write a trace.
 
+use crate::calls::next_owned;
+use crate::refused::samples::{push_stack, push_text};
 use dial9_trace_format::codec::{PoolEntry, StackPoolEntry, WireTypeId};
 use dial9_trace_format::decoder::{DecodedFrame, Decoder};
 use dial9_trace_format::encoder::{Call, Schema};
@@ -9,20 +11,47 @@ use std::alloc::{AllocError, Global};
 /// The calls that would write the frames of a trace again, and intern its texts and stacks.
 pub fn calls_of_trace(alloc: Global, bytes: &[u8]) -> Result<Vec<Call>, AllocError> {
     let mut calls = Vec::new(alloc);
-    let Some(mut decoder) = Decoder::new(alloc, bytes) else {
-        return Ok(calls);
-    };
-    for _ in 0..bytes.len() {
-        let frame = match decoder.next_frame() {
-            Ok(Some(frame)) => frame,
+    match push_trace(alloc, bytes, &mut calls) {
+        Ok(()) => Ok(calls),
+        Err(error) => Err(error),
+    }
+}
+
+fn push_trace(alloc: Global, bytes: &[u8], calls: &mut Vec<Call>) -> Result<(), AllocError> {
+    match Decoder::new(alloc, bytes) {
+        Some(mut decoder) => push_frames(alloc, &mut decoder, calls),
+        None => Ok(()),
+    }
+}
+
+fn push_frames(
+    alloc: Global,
+    decoder: &mut Decoder<'_>,
+    calls: &mut Vec<Call>,
+) -> Result<(), AllocError> {
+    for _ in 0..(*decoder).data_len() {
+        match next_owned(decoder) {
+            Ok(Some(frame)) => push_frame(alloc, decoder.registry(), frame, calls)?,
             _ => break,
-        };
-        intern_parts(alloc, &frame, &mut calls)?;
-        if let Some(call) = call_of(alloc, decoder.registry(), frame)? {
-            calls.push(call)?;
         }
     }
-    Ok(calls)
+    Ok(())
+}
+
+fn push_frame(
+    alloc: Global,
+    registry: &SchemaRegistry,
+    frame: DecodedFrame,
+    calls: &mut Vec<Call>,
+) -> Result<(), AllocError> {
+    intern_parts(alloc, &frame, calls)?;
+    match call_of(alloc, registry, frame)? {
+        Some(call) => {
+            calls.push(call)?;
+            Ok(())
+        }
+        None => Ok(()),
+    }
 }
 
 /// Interns the texts and the stacks of a pool.
@@ -45,7 +74,7 @@ fn intern_texts(
 ) -> Result<(), AllocError> {
     for entry in entries {
         if let Ok(text) = str::from_utf8(&entry.bytes) {
-            calls.push(Call::InternString(String::from_str(alloc, text)?))?;
+            push_text(alloc, text, calls)?;
         }
     }
     Ok(())
@@ -57,7 +86,7 @@ fn intern_stacks(
     calls: &mut Vec<Call>,
 ) -> Result<(), AllocError> {
     for entry in entries {
-        calls.push(Call::InternStack(Vec::from_slice(alloc, &entry.frames)?))?;
+        push_stack(alloc, &entry.frames, calls)?;
     }
     Ok(())
 }
