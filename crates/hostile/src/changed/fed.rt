@@ -36,9 +36,14 @@ fn is_ended(decoder: &FeedDecoder, ended: &Ended) -> bool {
 /// are five bytes or more.
 pub fn gives_none(alloc: Global, pieces: [&[u8]; 2]) -> Result<bool, AllocError> {
     let mut decoder = FeedDecoder::new(alloc);
-    let first = gives_nothing(&mut decoder, pieces[0], pieces[0].len())?;
-    let whole = pieces[0].len().saturating_add(pieces[1].len());
-    let second = gives_nothing(&mut decoder, pieces[1], whole)?;
+    give_nothing(&mut decoder, pieces)
+}
+
+fn give_nothing(decoder: &mut FeedDecoder, pieces: [&[u8]; 2]) -> Result<bool, AllocError> {
+    let [first, second] = pieces;
+    let whole = first.len().saturating_add(second.len());
+    let first = gives_nothing(decoder, first, first.len())?;
+    let second = gives_nothing(decoder, second, whole)?;
     Ok(first & second & (decoder.position() == 0) & (decoder.version() == None))
 }
 

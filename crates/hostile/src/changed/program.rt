@@ -18,7 +18,7 @@ use worked_traces::{ALL, Worked, name_of, parts_of, write_parts};
 /// Each trace of so many is dumped.
 const EACH: usize = 10;
 
-const FORMS: [DumpForm; 3] = [
+const FORMS: &[DumpForm] = &[
     DumpForm::Frames(Lines::Owned),
     DumpForm::Frames(Lines::Borrowed),
     DumpForm::Events,
@@ -88,20 +88,18 @@ impl Changed {
     fn replace(&mut self, bytes: &[u8]) -> Result<(), AllocError> {
         let mut changed = Vec::from_slice(self.alloc, bytes)?;
         for place in 0..bytes.len() {
-            for byte in 0..=255u8 {
-                self.add_with(&mut changed, place, byte)?;
-            }
-            changed.copy_from_slice(bytes);
+            self.replace_at(&mut changed, place)?;
+            put(&mut changed, place, bytes[place]);
         }
         Ok(())
     }
 
-    /// The trace with this byte at this place.
-    fn add_with(&mut self, changed: &mut [u8], place: usize, byte: u8) -> Result<(), AllocError> {
-        if let Some(at) = changed.get_mut(place) {
-            *at = byte;
+    fn replace_at(&mut self, changed: &mut [u8], place: usize) -> Result<(), AllocError> {
+        for byte in 0..=255u8 {
+            put(changed, place, byte);
+            self.add(changed, place)?;
         }
-        self.add(changed, place)
+        Ok(())
     }
 
     /// Reads a trace, in two pieces cut at this place too, and dumps it if its turn has come.
@@ -115,11 +113,18 @@ impl Changed {
 
     fn dump(&mut self, bytes: &[u8]) -> Result<(), AllocError> {
         for form in FORMS {
-            if dump_as(self.alloc, bytes, &mut self.lines, form) == FAILED {
+            if dump_as(self.alloc, bytes, &mut self.lines, *form) == FAILED {
                 return Err(AllocError);
             }
         }
         Ok(())
+    }
+}
+
+/// Puts a byte at this place, where the bytes have that.
+fn put(bytes: &mut [u8], place: usize, byte: u8) {
+    if let Some(at) = bytes.get_mut(place) {
+        *at = byte;
     }
 }
 
@@ -177,32 +182,23 @@ fn reads_alike(alloc: Global, reference: &Reference<'_>, place: usize) -> Result
     };
     let same = agree(alloc, &reference.owned, &reference.borrowed)?;
     let fed = gives_fed(alloc, reference, place);
-    let read = gives_all(alloc, reference, wanted)?;
+    let read = gives_all(alloc, reference, wanted.events);
     let shown = wanted.is_shown(alloc, false)? & wanted.is_shown(alloc, true)?;
     Ok(same & fed & read & shown)
 }
 
 /// Whether readers that give many frames, and iterators, give these, end so, and give no more.
-fn gives_all(
-    alloc: Global,
-    reference: &Reference<'_>,
-    wanted: Wanted<'_>,
-) -> Result<bool, AllocError> {
-    let owned = run_of(reference.owned.frames.len(), None);
-    let borrowed = run_of(reference.borrowed.frames.len(), None);
-    let frames = run_of(reference.borrowed.frames.len(), wanted.ended.error);
-    let events = run_of(wanted.events, wanted.ended.error);
-    let place = reference.owned.ended.place;
-    let mut right = true;
-    for (reader, whole, place) in [
-        (Reader::AllOwned, owned, place),
-        (Reader::AllBorrowed, borrowed, wanted.ended.place),
-        (Reader::Frames, frames, wanted.ended.place),
-        (Reader::Events, events, wanted.ended.place),
-    ] {
-        right &= gives(alloc, reference, reader, whole, place)?;
-    }
-    Ok(right)
+fn gives_all(alloc: Global, reference: &Reference<'_>, events: usize) -> bool {
+    let (owned, borrowed) = (&reference.owned, &reference.borrowed);
+    let whole = run_of(owned.frames.len(), None);
+    let mut right = gives(alloc, reference, Reader::AllOwned, whole, owned.ended.place);
+    let place = borrowed.ended.place;
+    let whole = run_of(borrowed.frames.len(), None);
+    right &= gives(alloc, reference, Reader::AllBorrowed, whole, place);
+    let whole = run_of(borrowed.frames.len(), borrowed.ended.error);
+    right &= gives(alloc, reference, Reader::Frames, whole, place);
+    let whole = run_of(events, borrowed.ended.error);
+    right & gives(alloc, reference, Reader::Events, whole, place)
 }
 
 fn run_of(given: usize, error: Option<DecodeError>) -> Run {
@@ -220,11 +216,15 @@ fn gives(
     reader: Reader,
     whole: Run,
     place: usize,
-) -> Result<bool, AllocError> {
-    let mut decoder = decoder_of(alloc, reference.bytes)?;
-    let run = reference.run(reader, &mut decoder);
-    let ended = is_ended(reader, &mut decoder);
-    Ok(run.same & run.is_as(&whole) & ended & (place_of(&decoder) == place))
+) -> bool {
+    match decoder_of(alloc, reference.bytes) {
+        Ok(mut decoder) => {
+            let run = reference.run(reader, &mut decoder);
+            let ended = is_ended(reader, &mut decoder);
+            run.same & run.is_as(&whole) & ended & (place_of(&decoder) == place)
+        }
+        Err(_) => false,
+    }
 }
 
 /// Whether an iterator that ended gives no more.

@@ -50,31 +50,41 @@ pub fn events_of(frames: &[DecodedFrameRef<'_>]) -> usize {
     count
 }
 
+/// Nothing was read.
+const NOTHING: Ended = Ended {
+    error: None,
+    place: 0,
+};
+
 /// What `next_frame` gives, until it gives nothing. `AllocError` where a growth was refused.
 pub fn read_owned(alloc: Global, mut decoder: Decoder<'_>) -> Result<Owned, AllocError> {
-    let mut frames = Vec::new(alloc);
-    let mut places = Vec::new(alloc);
-    let mut error = None;
-    for _ in 0..decoder.data_len() {
-        match next_owned(&mut decoder) {
-            Ok(Some(frame)) => frames.push(frame)?,
-            Ok(None) => break,
-            Err(met) => {
-                error = Some(unless_memory(met)?);
-                break;
-            }
-        }
-        places.push(place_of(&decoder))?;
-    }
-    let ended = Ended {
-        error,
-        place: place_of(&decoder),
+    let mut owned = Owned {
+        frames: Vec::new(alloc),
+        places: Vec::new(alloc),
+        ended: NOTHING,
     };
-    Ok(Owned {
-        frames,
-        places,
-        ended,
-    })
+    match owned.read(&mut decoder) {
+        Ok(()) => Ok(owned),
+        Err(error) => Err(error),
+    }
+}
+
+impl Owned {
+    fn read(&mut self, decoder: &mut Decoder<'_>) -> Result<(), AllocError> {
+        for _ in 0..(*decoder).data_len() {
+            match next_owned(decoder) {
+                Ok(Some(frame)) => self.frames.push(frame)?,
+                Ok(None) => break,
+                Err(error) => {
+                    self.ended.error = Some(unless_memory(error)?);
+                    break;
+                }
+            }
+            self.places.push(place_of(decoder))?;
+        }
+        self.ended.place = place_of(decoder);
+        Ok(())
+    }
 }
 
 /// What `next_frame_ref` gives, until it gives nothing. `AllocError` where a growth was refused.
@@ -82,29 +92,33 @@ pub fn read_borrowed<'a>(
     alloc: Global,
     mut decoder: Decoder<'a>,
 ) -> Result<Borrowed<'a>, AllocError> {
-    let mut frames = Vec::new(alloc);
-    let mut places = Vec::new(alloc);
-    let mut error = None;
-    for _ in 0..decoder.data_len() {
-        match next_borrowed(&mut decoder) {
-            Ok(Some(frame)) => frames.push(frame)?,
-            Ok(None) => break,
-            Err(met) => {
-                error = Some(unless_memory(met)?);
-                break;
-            }
-        }
-        places.push(place_of(&decoder))?;
-    }
-    let ended = Ended {
-        error,
-        place: place_of(&decoder),
+    let mut borrowed = Borrowed {
+        frames: Vec::new(alloc),
+        places: Vec::new(alloc),
+        ended: NOTHING,
     };
-    Ok(Borrowed {
-        frames,
-        places,
-        ended,
-    })
+    match borrowed.read(&mut decoder) {
+        Ok(()) => Ok(borrowed),
+        Err(error) => Err(error),
+    }
+}
+
+impl<'a> Borrowed<'a> {
+    fn read(&mut self, decoder: &mut Decoder<'a>) -> Result<(), AllocError> {
+        for _ in 0..(*decoder).data_len() {
+            match next_borrowed(decoder) {
+                Ok(Some(frame)) => self.frames.push(frame)?,
+                Ok(None) => break,
+                Err(error) => {
+                    self.ended.error = Some(unless_memory(error)?);
+                    break;
+                }
+            }
+            self.places.push(place_of(decoder))?;
+        }
+        self.ended.place = place_of(decoder);
+        Ok(())
+    }
 }
 
 /// The error, unless a growth was refused.

@@ -20,7 +20,7 @@ pub enum Dump {
 }
 
 /// Each of them.
-pub const DUMPS: [Dump; 4] = [
+pub const DUMPS: &[Dump] = &[
     Dump::Whole(DumpForm::Frames(Reader::Owned)),
     Dump::Whole(DumpForm::Frames(Reader::Borrowed)),
     Dump::Whole(DumpForm::Events),

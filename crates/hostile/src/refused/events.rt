@@ -23,7 +23,7 @@ enum Plain {
     Wide,
 }
 
-const PLAIN: [Plain; 7] = [
+const PLAIN: &[Plain] = &[
     Plain::LastSlot,
     Plain::Annotated,
     Plain::ByName,
@@ -36,13 +36,17 @@ const PLAIN: [Plain; 7] = [
 /// Events of types, each with what it takes to be written the first time and once more.
 pub fn push_types(asks: &mut Vec<Ask>) -> Result<(), AllocError> {
     asks.push(Ask::FastSlot(FastSlot { time: 1_000_000 }))?;
-    for time in [1_000_001, 1_000_002u64] {
-        asks.push(Ask::FastSlot(FastSlot { time }))?;
-        for plain in PLAIN {
-            asks.push(plain_at(plain, time))?;
-        }
-    }
+    push_types_at(1_000_001, asks)?;
+    push_types_at(1_000_002, asks)?;
     asks.push(Ask::Flush)?;
+    Ok(())
+}
+
+fn push_types_at(time: u64, asks: &mut Vec<Ask>) -> Result<(), AllocError> {
+    asks.push(Ask::FastSlot(FastSlot { time }))?;
+    for plain in PLAIN {
+        asks.push(plain_at(*plain, time))?;
+    }
     Ok(())
 }
 
@@ -69,7 +73,7 @@ enum Owning {
     Misfit(u64),
 }
 
-const OWNING: [Owning; 9] = [
+const OWNING: &[Owning] = &[
     Owning::Texts(3),
     Owning::Stacks(3),
     Owning::Dynamic(3),
@@ -84,7 +88,7 @@ const OWNING: [Owning; 9] = [
 /// The same of types whose values own memory.
 pub fn push_types_that_own(alloc: Global, asks: &mut Vec<Ask>) -> Result<(), AllocError> {
     for owning in OWNING {
-        asks.push(owning_of(alloc, owning)?)?;
+        asks.push(owning_of(alloc, *owning)?)?;
     }
     asks.push(Ask::Flush)?;
     Ok(())

@@ -57,13 +57,9 @@ fn make_all(encoder: &mut Encoder<Told>, calls: &[Call]) {
 fn goes_on(encoder: &mut Encoder<Told>, calls: &[Call]) -> bool {
     let written = encoder.bytes_written();
     let known = makes_known(encoder, calls) & (encoder.bytes_written() == written);
-    let flushed = is_flushed(encoder);
+    let flushed = encoder.flush().is_ok() & encoder.as_inner().is_settled();
     let reset = encoder.reset_to(Told::new(Manner::SOUND)).is_ok();
     known & flushed & reset & (encoder.bytes_written() == 5)
-}
-
-fn is_flushed(encoder: &mut Encoder<Told>) -> bool {
-    encoder.flush().is_ok() & encoder.as_inner().is_settled()
 }
 
 /// Whether three bytes are sent after a header.
@@ -208,29 +204,22 @@ fn begins(registry: &mut SchemaRegistry) -> bool {
 
 fn gives_values() -> bool {
     let mut out = Told::new(Manner::SOUND);
-    let read = reads_back(&mut out) & has_type();
-    let stacks = gives_address(StackFrameIter::new(&[7, 0, 0, 0, 0, 0, 0, 0], 1));
-    let texts = gives_pair(StringMapIter::new(&[1, 0, 0, 0, 0x6B, 1, 0, 0, 0, 0x76], 1));
-    read & stacks & texts
-}
-
-fn reads_back(out: &mut Told) -> bool {
-    let written = encode_unsigned(300, out).is_ok();
-    written & (decode_unsigned(out.bytes()) == Some((300, 2)))
-}
-
-fn has_type() -> bool {
+    let written = encode_unsigned(300, &mut out).is_ok();
+    let read = decode_unsigned(out.bytes()) == Some((300, 2));
     let tagged = FieldType::from_tag(9) == Some(FieldType::Varint);
-    tagged & (FieldType::Varint.optional().inner() == FieldType::Varint)
+    let inner = FieldType::Varint.optional().inner() == FieldType::Varint;
+    written & read & tagged & inner & gives_address() & gives_pair()
 }
 
-fn gives_address(mut frames: StackFrameIter<'_>) -> bool {
+fn gives_address() -> bool {
+    let mut frames = StackFrameIter::new(&[7, 0, 0, 0, 0, 0, 0, 0], 1);
     let one = frames.len() == 1;
     let first = frames.next() == Some(7);
     one & first & (frames.next() == None)
 }
 
-fn gives_pair(mut pairs: StringMapIter<'_>) -> bool {
+fn gives_pair() -> bool {
+    let mut pairs = StringMapIter::new(&[1, 0, 0, 0, 0x6B, 1, 0, 0, 0, 0x76], 1);
     let one = pairs.len() == 1;
     let first = pairs.next() == Some(("k", "v"));
     one & first & (pairs.next() == None)

@@ -21,15 +21,17 @@ pub struct Listed {
 
 /// What the list answers and writes.
 pub fn list_of(alloc: Global, calls: Vec<Call>) -> Result<Listed, AllocError> {
+    let (replies, bytes) = run_in_array(alloc, &calls)?;
+    Ok(Listed {
+        calls,
+        replies,
+        bytes,
+    })
+}
+
+fn run_in_array(alloc: Global, calls: &[Call]) -> Result<(Vec<Reply>, Vec<u8>), AllocError> {
     let mut encoder = over_array(alloc)?;
-    match run_all(alloc, &mut encoder, &calls) {
-        Ok((replies, bytes)) => Ok(Listed {
-            calls,
-            replies,
-            bytes,
-        }),
-        Err(error) => Err(error),
-    }
+    run_all(alloc, &mut encoder, calls)
 }
 
 /// What the calls answer, and what is written then.

@@ -36,7 +36,7 @@ enum Part {
     OfType,
 }
 
-const PARTS: [Part; 6] = [
+const PARTS: &[Part] = &[
     Part::Entry,
     Part::Plain,
     Part::Copy,
@@ -242,18 +242,22 @@ pub fn sweep_registry(alloc: Global, registry: &SchemaRegistry, counts: &mut Cou
 /// Makes an entry and its parts anew.
 fn sweep_entry(alloc: Global, entry: &SchemaEntry, counts: &mut Counts) {
     for part in PARTS {
-        sweep_part(alloc, part, entry, counts);
+        sweep_part(alloc, *part, entry, counts);
     }
+    sweep_fields(alloc, entry, counts);
+    sweep_made(alloc, &Made::Shared(entry), counts);
+    sweep_made(alloc, &Made::New(entry), counts);
+    sweep_layout(alloc, entry, counts);
+    sweep(alloc, &Registering(entry), counts);
+}
+
+fn sweep_fields(alloc: Global, entry: &SchemaEntry, counts: &mut Counts) {
     for field in entry.fields() {
         sweep_made(alloc, &Made::Field(field), counts);
     }
     for annotation in entry.annotations() {
         sweep_made(alloc, &Made::Annotation(annotation), counts);
     }
-    sweep_made(alloc, &Made::Shared(entry), counts);
-    sweep_made(alloc, &Made::New(entry), counts);
-    sweep_layout(alloc, entry, counts);
-    sweep(alloc, &Registering(entry), counts);
 }
 
 fn sweep_part(alloc: Global, part: Part, entry: &SchemaEntry, counts: &mut Counts) {

@@ -54,19 +54,29 @@ pub fn after_trace(
     hashing: Hashing,
 ) -> Result<Option<Resuming<'_>>, AllocError> {
     match resumed(read(alloc, bytes)?, Told::new(Manner::SOUND), hashing) {
-        Ok(mut encoder) => match run_all(alloc, &mut encoder, &calls) {
-            Ok((replies, written)) => Ok(Some(Resuming {
-                hashing,
-                bytes,
-                calls,
-                replies,
-                written,
-            })),
-            Err(error) => Err(error),
-        },
+        Ok(mut encoder) => {
+            let ran = run_all(alloc, &mut encoder, &calls);
+            resuming(bytes, calls, hashing, ran)
+        }
         Err(EncodeError::OutOfMemory) => Err(AllocError),
         Err(_) => Ok(None),
     }
+}
+
+fn resuming(
+    bytes: &[u8],
+    calls: Vec<Call>,
+    hashing: Hashing,
+    ran: Result<(Vec<Reply>, Vec<u8>), AllocError>,
+) -> Result<Option<Resuming<'_>>, AllocError> {
+    let (replies, written) = ran?;
+    Ok(Some(Resuming {
+        hashing,
+        bytes,
+        calls,
+        replies,
+        written,
+    }))
 }
 
 /// A writer that its owner sees again.

@@ -40,7 +40,7 @@ pub enum Reader {
 }
 
 /// All of them.
-pub const READERS: [Reader; 10] = [
+pub const READERS: &[Reader] = &[
     Reader::Owned,
     Reader::Borrowed,
     Reader::Frames,

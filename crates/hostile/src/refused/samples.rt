@@ -31,7 +31,7 @@ pub enum Sample {
 }
 
 /// All of them.
-pub const SAMPLES: [Sample; 3] = [Sample::Schemas, Sample::Pools, Sample::Many];
+pub const SAMPLES: &[Sample] = &[Sample::Schemas, Sample::Pools, Sample::Many];
 
 /// The calls of a list.
 pub fn calls_of(alloc: Global, sample: Sample) -> Result<Vec<Call>, AllocError> {
@@ -72,7 +72,7 @@ enum Values {
 }
 
 /// Accepted calls, and each kind of refusal that a list of calls meets.
-const WITH_SCHEMAS: [Given; 10] = [
+const WITH_SCHEMAS: &[Given] = &[
     Given::Register(Of::Plain),
     Given::Register(Of::Plain),
     Given::Write(Of::Plain, 1_000, Values::Number(42)),
@@ -86,17 +86,17 @@ const WITH_SCHEMAS: [Given; 10] = [
 ];
 
 fn with_schemas(alloc: Global) -> Result<Vec<Call>, AllocError> {
+    let plain = schema_of(alloc, "Ev", &[FieldType::Varint])?;
     let mut calls = Vec::new(alloc);
-    match push_given(alloc, &mut calls) {
+    match push_given(alloc, &plain, &mut calls) {
         Ok(()) => Ok(calls),
         Err(error) => Err(error),
     }
 }
 
-fn push_given(alloc: Global, calls: &mut Vec<Call>) -> Result<(), AllocError> {
-    let plain = schema_of(alloc, "Ev", &[FieldType::Varint])?;
+fn push_given(alloc: Global, plain: &Schema, calls: &mut Vec<Call>) -> Result<(), AllocError> {
     for given in WITH_SCHEMAS {
-        calls.push(call_of(alloc, &plain, given)?)?;
+        calls.push(call_of(alloc, plain, *given)?)?;
     }
     Ok(())
 }
@@ -116,7 +116,7 @@ fn schema(alloc: Global, plain: &Schema, of: Of) -> Result<Schema, AllocError> {
         Of::Plain => plain.clone(),
         Of::Other => schema_of(alloc, "Ev", &[FieldType::Bool]),
         Of::Noted => noted(alloc),
-        Of::Wide => schema_of(alloc, "Many", &WIDE),
+        Of::Wide => schema_of(alloc, "Many", WIDE),
     }
 }
 
@@ -148,7 +148,7 @@ fn noted(alloc: Global) -> Result<Schema, AllocError> {
 }
 
 /// Many types.
-const WIDE: [FieldType; 6] = [
+const WIDE: &[FieldType] = &[
     FieldType::DynamicList,
     FieldType::OptionalString,
     FieldType::StringMap,
@@ -161,7 +161,7 @@ const WIDE: [FieldType; 6] = [
 fn wide_values(alloc: Global) -> Result<Vec<FieldValue>, AllocError> {
     let mut values = Vec::new(alloc);
     for field_type in WIDE {
-        values.push(value_of(alloc, field_type)?)?;
+        values.push(value_of(alloc, *field_type)?)?;
     }
     Ok(values)
 }
@@ -182,7 +182,7 @@ fn value_of(alloc: Global, field_type: FieldType) -> Result<FieldValue, AllocErr
 }
 
 /// Texts that are interned.
-const TEXTS: [&str; 4] = [
+const TEXTS: &[&str] = &[
     "hello",
     "hello",
     "a longer text that is none of the others",
@@ -190,7 +190,7 @@ const TEXTS: [&str; 4] = [
 ];
 
 /// Stacks that are interned.
-const STACKS: [&[u64]; 4] = [&[1, 2, 3], &[1, 2, 3], &[], &[7; 20]];
+const STACKS: &[&[u64]] = &[&[1, 2, 3], &[1, 2, 3], &[], &[7; 20]];
 
 /// Calls with pools.
 pub fn with_pools(alloc: Global) -> Result<Vec<Call>, AllocError> {

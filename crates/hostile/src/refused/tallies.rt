@@ -92,7 +92,7 @@ impl Tallies {
         sweep_row(alloc, &mut self.row)?;
         self.try_events(alloc)?;
         for sample in SAMPLES {
-            self.try_calls(alloc, calls_of(alloc, sample)?)?;
+            self.try_calls(alloc, calls_of(alloc, *sample)?)?;
         }
         self.try_new(alloc);
         sweep_free_values(alloc, &mut self.free);
@@ -178,7 +178,7 @@ impl Tallies {
     /// Tries all that reads bytes.
     fn try_bytes(&mut self, alloc: Global, bytes: &[u8]) -> Result<(), AllocError> {
         for dump in DUMPS {
-            self.try_dump(alloc, bytes, dump)?;
+            self.try_dump(alloc, bytes, *dump)?;
         }
         match reference_of(alloc, bytes)? {
             Some(reference) => self.try_read(alloc, &reference),
@@ -238,10 +238,10 @@ impl Tallies {
     /// Has each reader read a trace.
     fn try_readers(&mut self, alloc: Global, reference: &Reference<'_>) -> Result<(), AllocError> {
         for reader in READERS {
-            let whole = run_of(alloc, reference, reader)?;
+            let whole = run_of(alloc, reference, *reader)?;
             let trial = Reading {
                 reference,
-                reader,
+                reader: *reader,
                 whole,
             };
             sweep(alloc, &trial, &mut self.readers);
@@ -251,15 +251,18 @@ impl Tallies {
 
     /// Has a decoder be fed a trace in two pieces.
     fn try_feeders(&mut self, alloc: Global, reference: &Reference<'_>) {
+        self.try_feeder(alloc, reference, Form::Feed);
+        self.try_feeder(alloc, reference, Form::Push);
+    }
+
+    fn try_feeder(&mut self, alloc: Global, reference: &Reference<'_>, form: Form) {
         let place = reference.bytes.len() / 2;
-        for form in [Form::Feed, Form::Push] {
-            let trial = Feeding {
-                reference,
-                form,
-                place,
-            };
-            sweep(alloc, &trial, &mut self.fed);
-        }
+        let trial = Feeding {
+            reference,
+            form,
+            place,
+        };
+        sweep(alloc, &trial, &mut self.fed);
     }
 
     /// Tries the registry that a trace leaves.
