@@ -27,7 +27,7 @@ pub struct Plan {
 /// The plan of these calls. `AllocError` where a growth was refused.
 pub fn plan_of(alloc: Global, asks: Vec<Ask>) -> Result<Plan, AllocError> {
     let mut encoder = new_encoder(alloc)?;
-    match planned(alloc, &mut encoder, asks) {
+    match plan_calls(alloc, &mut encoder, asks) {
         Ok(calls) => Ok(Plan {
             calls,
             bytes: encoder.finish(),
@@ -36,7 +36,7 @@ pub fn plan_of(alloc: Global, asks: Vec<Ask>) -> Result<Plan, AllocError> {
     }
 }
 
-fn planned(
+fn plan_calls(
     alloc: Global,
     encoder: &mut Encoder,
     asks: Vec<Ask>,

@@ -56,14 +56,14 @@ pub fn after_trace(
     match resumed(read(alloc, bytes)?, Told::new(Manner::SOUND), hashing) {
         Ok(mut encoder) => {
             let ran = run_all(alloc, &mut encoder, &calls);
-            resuming(bytes, calls, hashing, ran)
+            resuming_of(bytes, calls, hashing, ran)
         }
         Err(EncodeError::OutOfMemory) => Err(AllocError),
         Err(_) => Ok(None),
     }
 }
 
-fn resuming(
+fn resuming_of(
     bytes: &[u8],
     calls: Vec<Call>,
     hashing: Hashing,
