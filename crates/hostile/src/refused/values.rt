@@ -126,7 +126,7 @@ enum Reread<'v> {
     /// `FieldValue::decode`.
     Owned(&'v Spelled<'v>),
     /// `FieldValueRef::decode`, and what it gives.
-    Borrowed(&'v Spelled<'v>, &'v FieldValueRef<'v>),
+    Borrowed(&'v Spelled<'v>, FieldValueRef<'v>),
 }
 
 impl Making for Reread<'_> {
@@ -147,10 +147,10 @@ fn decodes(alloc: Global, spelled: &Spelled<'_>) -> Result<bool, AllocError> {
 }
 
 /// Whether the bytes give this value, which ends where they end.
-fn decodes_ref<'v>(
+fn decodes_ref<'g, 'v>(
     alloc: Global,
     spelled: &'v Spelled<'v>,
-    wanted: &'v FieldValueRef<'v>,
+    wanted: &'g FieldValueRef<'v>,
 ) -> Result<bool, AllocError> {
     match FieldValueRef::decode(alloc, spelled.field_type, &spelled.bytes, 0)? {
         Some((value, end)) => Ok((value == *wanted) & (end == spelled.bytes.len())),
@@ -171,13 +171,17 @@ pub fn sweep_value(alloc: Global, value: &FieldValue, counts: &mut Counts) {
 fn sweep_spelled(alloc: Global, spelled: &Spelled<'_>, counts: &mut Counts) {
     sweep(alloc, &Appended(spelled), counts);
     sweep_made(alloc, &Reread::Owned(spelled), counts);
-    match FieldValueRef::decode(alloc, spelled.field_type, &spelled.bytes, 0) {
-        Ok(Some((value, _))) => sweep_made(alloc, &Reread::Borrowed(spelled, &value), counts),
-        Ok(None) => {}
-        Err(_) => counts.add(Verdict::Wrong),
-    }
+    sweep_borrowed(alloc, spelled, counts);
     if spelled.bytes.len() < ROOM {
         sweep(alloc, &Encoded(spelled), counts);
+    }
+}
+
+fn sweep_borrowed(alloc: Global, spelled: &Spelled<'_>, counts: &mut Counts) {
+    match FieldValueRef::decode(alloc, spelled.field_type, &spelled.bytes, 0) {
+        Ok(Some((value, _end))) => sweep_made(alloc, &Reread::Borrowed(spelled, value), counts),
+        Ok(None) => {}
+        Err(_) => counts.add(Verdict::Wrong),
     }
 }
 
