@@ -27,7 +27,7 @@ returns-in_err-put_on g c =
     let old = c.args.decoder.now.state in
     let new = c.push_next_lines.new.decoder.state in
     let are = subst (λ (f : Fed). AreNextLines f.state new (string_bytes l) c.in_ok-next.next)
-        c.large_event.ensures.same c.in_ok-next.ensures in
+    c.large_event.ensures.same c.in_ok-next.ensures in
     rw (p.1, p.2) (nothing_sent told lines (record lines { line = l }) c.put_on.new.self old new c.in_ok-next.next _
     (lines_put told lines l old new c.in_ok-next.next c.requires.empty are) c.in_err-put_on.ensures)
 
@@ -39,6 +39,6 @@ returns g c =
     let old = c.args.decoder.now.state in
     let new = c.push_next_lines.new.decoder.state in
     let are = subst (λ (f : Fed). AreNextLines f.state new (string_bytes l) c.in_ok-next.next)
-        c.large_event.ensures.same c.in_ok-next.ensures in
+    c.large_event.ensures.same c.in_ok-next.ensures in
     nothing_more told lines (record lines { line = l }) c.put_on.new.self old new c.in_ok-next.next
     (lines_put told lines l old new c.in_ok-next.next c.requires.empty are) c.in_ok-put_on.ensures
