@@ -8,26 +8,26 @@ lines-init g c = none_held g.W.TraceWrite.told c.args.lines.now c.args.decoder.n
 pub lines-preserved : goal.lines-preserved
 lines-preserved g c =
     (one_more_held g.W.TraceWrite.told c.hold_next.new.lines c.hold_next.new.decoder.state c.in-Line.is
-    c.lines.invariant c.in_ok-status.ensures).0
+    c.lines.invariant c.in_ok-hold_next.ensures).0
 
 pub lines-smaller : goal.lines-smaller
 lines-smaller g c =
     (one_more_held g.W.TraceWrite.told c.hold_next.new.lines c.hold_next.new.decoder.state c.in-Line.is
-    c.lines.invariant c.in_ok-status.ensures).1
+    c.lines.invariant c.in_ok-hold_next.ensures).1
 
-pub returns-in_err-status : goal.returns-in_err-status
-returns-in_err-status g c =
+pub returns-in_err-hold_next : goal.returns-in_err-hold_next
+returns-in_err-hold_next g c =
     let p = err_from_is_err_and c.from_residual.result c.from_residual.ensures.1 in
     rw (p.1, p.2) (next_refused g.W.TraceWrite.told c.hold_next.new.lines c.hold_next.new.decoder.state _
     c.lines.invariant
-    c.in_err-status.ensures)
+    c.in_err-hold_next.ensures)
 
 pub returns-in-Wait : goal.returns-in-Wait
 returns-in-Wait g c =
     no_more_held g.W.TraceWrite.told c.hold_next.new.lines c.hold_next.new.decoder.state c.in-Wait.is
-    c.lines.invariant c.in_ok-status.ensures
+    c.lines.invariant c.in_ok-hold_next.ensures
 
 pub returns-in-End : goal.returns-in-End
 returns-in-End g c =
     last_held g.W.TraceWrite.told c.hold_next.new.lines c.hold_next.new.decoder.state c.in-End.status c.in-End.is
-    c.lines.invariant c.in_ok-status.ensures
+    c.lines.invariant c.in_ok-hold_next.ensures

@@ -11,34 +11,34 @@ returns-in-Some g c =
     c.put_event.new.decoder.state c.in-Some.event c.put_event.result c.large_event.ensures.same c.in-Some.ensures.whole
     c.requires.fed c.put_event.ensures
 
-pub returns-in_err-next : goal.returns-in_err-next
-returns-in_err-next g c =
+pub returns-in_err-next-in-None : goal.returns-in_err-next-in-None
+returns-in_err-next-in-None g c =
     let p = err_from_is_err_and c.from_residual.result c.from_residual.ensures.1 in
     rw (p.1, p.2) (lines_refused g.W.TraceWrite.told c.args.lines.now c.push_next_lines.new.line
     c.args.decoder.now.state c.push_next_lines.new.decoder.state c.requires.fed)
 
-pub returns-in_err-put_on : goal.returns-in_err-put_on
-returns-in_err-put_on g c =
-    let given = c.from_residual-in_err-put_on in
+pub returns-in_err-put_on-in-None : goal.returns-in_err-put_on-in-None
+returns-in_err-put_on-in-None g c =
+    let given = c.from_residual-in_err-put_on-in-None in
     let p = err_from_is_err_and given.result given.ensures.1 in
     let told = g.W.TraceWrite.told in
     let lines = c.args.lines.now in
     let l = c.push_next_lines.new.line in
     let old = c.args.decoder.now.state in
     let new = c.push_next_lines.new.decoder.state in
-    let are = subst (λ (f : Fed). AreNextLines f.state new (string_bytes l) c.in_ok-next.next)
-    c.large_event.ensures.same c.in_ok-next.ensures in
-    rw (p.1, p.2) (nothing_sent told lines (record lines { line = l }) c.put_on.new.self old new c.in_ok-next.next _
-    (lines_put told lines l old new c.in_ok-next.next c.requires.empty are) c.in_err-put_on.ensures)
+    let are = subst (λ (f : Fed). AreNextLines f.state new (string_bytes l) c.in_ok-next-in-None.next)
+    c.large_event.ensures.same c.in_ok-next-in-None.ensures in
+    rw (p.1, p.2) (nothing_sent told lines (record lines { line = l }) c.put_on.new.self old new
+    c.in_ok-next-in-None.next _ (lines_put told lines l old new c.in_ok-next-in-None.next c.requires.empty are) c.in_err-put_on-in-None.ensures)
 
-pub returns : goal.returns
-returns g c =
+pub returns-in_ok-put_on-in-None : goal.returns-in_ok-put_on-in-None
+returns-in_ok-put_on-in-None g c =
     let told = g.W.TraceWrite.told in
     let lines = c.args.lines.now in
     let l = c.push_next_lines.new.line in
     let old = c.args.decoder.now.state in
     let new = c.push_next_lines.new.decoder.state in
-    let are = subst (λ (f : Fed). AreNextLines f.state new (string_bytes l) c.in_ok-next.next)
-    c.large_event.ensures.same c.in_ok-next.ensures in
-    nothing_more told lines (record lines { line = l }) c.put_on.new.self old new c.in_ok-next.next
-    (lines_put told lines l old new c.in_ok-next.next c.requires.empty are) c.in_ok-put_on.ensures
+    let are = subst (λ (f : Fed). AreNextLines f.state new (string_bytes l) c.in_ok-next-in-None.next)
+    c.large_event.ensures.same c.in_ok-next-in-None.ensures in
+    nothing_more told lines (record lines { line = l }) c.put_on.new.self old new c.in_ok-next-in-None.next
+    (lines_put told lines l old new c.in_ok-next-in-None.next c.requires.empty are) c.in_ok-put_on-in-None.ensures
