@@ -29,7 +29,8 @@ returns-in_err-put_on-in-None g c =
     let are = subst (λ (f : Fed). AreNextLines f.state new (string_bytes l) c.in_ok-next-in-None.next)
     c.large_event.ensures.same c.in_ok-next-in-None.ensures in
     rw (p.1, p.2) (nothing_sent told lines (record lines { line = l }) c.put_on.new.self old new
-    c.in_ok-next-in-None.next _ (lines_put told lines l old new c.in_ok-next-in-None.next c.requires.empty are) c.in_err-put_on-in-None.ensures)
+    c.in_ok-next-in-None.next _ (lines_put told lines l old new c.in_ok-next-in-None.next c.requires.empty are)
+    c.in_err-put_on-in-None.ensures)
 
 pub returns-in_ok-put_on-in-None : goal.returns-in_ok-put_on-in-None
 returns-in_ok-put_on-in-None g c =
