@@ -5,8 +5,8 @@ use Rattle.trace_csv.specs.Cells.{IsCellOf}
 use Rattle.trace_csv.proofs.CellLemmas.{Pushed, cell_pushed, special_cell}
 use Rattle.trace_csv.proofs.cells.push_float.Goals as goal
 
-pub returns-2 : goal.returns-2
-returns-2 g c =
+pub returns : goal.returns
+returns g c =
     let pools = as_pools c.args.strings.now c.args.stacks.now in
     let v = g.V.TraceValue.value c.args.value.now in
     let text : c.as_bytes.result.now ≡ special_text c.args.bits = search rules in
