@@ -5,6 +5,7 @@ use Rattle.json.specs.Json.{Json}
 use Rattle.json.specs.Print.{print}
 use Rattle.json.specs.Token.{Token}
 use Rattle.trace_values.specs.Sending.{Account, TookOnly}
+use Rattle.trace_values.specs.Encoding.{SendFails}
 use Rattle.trace_json.specs.Lines.{json_text, line_feed}
 use Rattle.trace_json.specs.declared.sending.JsonLines.{JsonLines}
 use Rattle.trace_json.specs.declared.growing.LineError.{LineError}
@@ -30,6 +31,11 @@ pub record StopsWithin (before after : Account) (held : List ℕ) (faults : List
   pub others : List ℕ
   pub took : TookOnly before after sent faults
   pub all : held ++ (print tokens ++ line_feed ∷ []) ≡ sent ++ others
+
+-- what is held was not sent: the writer failed once, after a front of it and not all
+abbrev pub HeldFails : Account → Account → JsonLines → LineError → Type 0
+HeldFails before after lines OutOfMemory = ⊥
+HeldFails before after lines (Writer kind) = SendFails before after lines.held.items kind
 
 -- A line was not held. A growth was refused, and no fault came. Or the writer failed, and nothing was tried after that.
 abbrev pub LineFails : Account → Account → JsonLines → LineError → Type 0

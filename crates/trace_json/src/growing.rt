@@ -269,8 +269,8 @@ fn send_both<W: TraceWrite>(out: &mut W, first: &[u8], second: &[u8]) -> Result<
     send_to(out, second)
 }
 
-/// Sends bytes. `LineError::Writer` where the writer failed.
-pub(crate) fn send_to<W: TraceWrite>(out: &mut W, bytes: &[u8]) -> Result<(), LineError>
+// Sends bytes. `LineError::Writer` where the writer failed.
+fn send_to<W: TraceWrite>(out: &mut W, bytes: &[u8]) -> Result<(), LineError>
     ensures { SendsBytes (W.told out.old) (W.told out.new) bytes.now result }
 {
     match send_all(out, bytes) {

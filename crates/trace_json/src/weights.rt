@@ -6,8 +6,8 @@ use trace_wire::pools::{StackPool, StringPool};
 /// A number, a truth value or an id that stands for nothing.
 pub(crate) const LITTLE: usize = 16;
 
-/// An address of a stack.
-pub(crate) const ADDRESS: usize = 16;
+// An address of a stack.
+const ADDRESS: usize = 16;
 
 /// The text of an id.
 pub(crate) fn pooled_text_weight(strings: &StringPool, id: InternedString) -> usize {

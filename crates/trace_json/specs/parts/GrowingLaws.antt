@@ -1,5 +1,5 @@
 -- For private contracts: the laws of JSON that grows.
-use Rattle.std.specs.Prelude.{◌≡◌, ℕ, List, [], ◌∷◌, ◌++◌, fold}
+use Rattle.std.specs.Prelude.{◌≡◌, ℕ, Bool, List, [], ◌++◌, fold}
 use Rattle.std.specs.declared.alloc.AllocError.{AllocError}
 use Rattle.std.specs.declared.io.ErrorKind.{ErrorKind}
 use Rattle.std.proofs.Common.{refl, sym, ap, ◌∙◌, append-nil, append_assoc}
@@ -34,7 +34,7 @@ writer_carries s m t a e first second = second ∙ first.1
 
 -- ---- one that sends
 
-nothing_printed : (c : Bool) → print_from c [] ≡ []
+pub nothing_printed : (c : Bool) → print_from c [] ≡ []
 unfolding print_from
 nothing_printed c = refl
 

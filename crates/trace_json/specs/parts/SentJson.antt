@@ -45,8 +45,8 @@ pub record IsReady {W : Type 0} (s : SentJson W) : Type 0 where
   pub stands : standing_for s.goes_on ≤ length (print s.writer.tokens)
 
 -- tokens come after those that were put, and of all text a front is sent
-pub record Sends {W : Type 0} (told : W → Account) (old : SentJson W) (tokens : List Token) (new : SentJson W) : Type 0
-where
+pub record Sends {W : Type 0} (told : W → Account) (old : SentJson W) (tokens : List Token) (new : SentJson W)
+    : Type 0 where
   pub same_writer : new.out.ghost_name ≡ old.out.ghost_name
   pub ready : IsReady new
   pub ends_so : ends_value new.writer.tokens ≡ fold (λ _ t. ends t) (ends_value old.writer.tokens) tokens
