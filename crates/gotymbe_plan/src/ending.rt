@@ -6,7 +6,8 @@ ghost use Rattle.trace_lines.specs.Dumps.{failed_status};
 ghost use Rattle.gotymbe_plan.specs.Endings.{stop_ending, IsErrorEnding, dump_ending, HasStatus, stop_status};
 ghost use Rattle.gotymbe_plan.specs.Endings.{IsTold, AppendsLine, AppendsReason, AppendsStop};
 ghost use Rattle.gotymbe_plan.specs.Endings.{start_text, cause_text, rest_ending, LacksCause, IsPlaceAlone};
-ghost use Rattle.gotymbe_plan.specs.Endings.{IsConflict, AppendsUnfinished, HasTail, error_text, line_ending, whole_line};
+ghost use Rattle.gotymbe_plan.specs.Endings.{IsConflict, AppendsUnfinished, HasTail, error_text, whole_line};
+ghost use Rattle.gotymbe_plan.specs.Endings.{line_ending};
 ghost use Rattle.gotymbe_plan.specs.OneLine.{AddsLine};
 
 use crate::names::push_name;

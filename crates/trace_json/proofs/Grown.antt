@@ -1,6 +1,7 @@
 -- JSON that is put to what grows, part by part.
 use Rattle.std.proofs.Common.{◌≡◌, ℕ, ◌+◌, ◌<◌, ◌≤◌, length, take, drop, get_or, List, [], ◌∷◌, ◌++◌, map as list_map}
-use Rattle.std.proofs.Common.{Result, Ok, Err, OnOk, Option, None, Some, Bor, refl, sym, ap, subst, ◌∙◌, append_assoc, arith}
+use Rattle.std.proofs.Common.{Result, Ok, Err, OnOk, Option, None, Some, Bor}
+use Rattle.std.proofs.Common.{refl, sym, ap, subst, ◌∙◌, append_assoc, arith}
 use Rattle.std.specs.List.{flat_map}
 use Rattle.std.specs.declared.alloc.AllocError.{AllocError}
 use Rattle.std.proofs.lemmas.List.{flat_map_more, take_all, length-map, length-take-le}
@@ -15,7 +16,7 @@ use Rattle.trace_wire.specs.Runs.{Pools}
 use Rattle.trace_json.specs.EventJson.{IsValueJson, AreItemsJson, ArePairsJson, IsPairOf, AreFieldsJson, list_json}
 use Rattle.trace_json.specs.EventJson.{object_json, pair_json, file_members, event_members}
 use Rattle.trace_json.specs.Put.{Stands}
-use Rattle.trace_json.specs.parts.Growing.{GrowsAll, GrowsOne, PutsAllBy, PutsBy, PutsOneBy, WriterFails, WriterGrows}
+use Rattle.trace_json.specs.parts.Growing.{GrowsAll, GrowsOne, PutsAllBy, PutsBy, PutsOneBy, WriterRefuses, WriterGrows}
 use Rattle.trace_json.specs.parts.Put.{member_tokens, head_tokens}
 use Rattle.trace_json.proofs.Tokens.{items_tokens_of, members_tokens_of}
 use Rattle.trace_json.proofs.OneMore.{IsPairJson, NameAt, fields_more, items_more, pairs_more, seen_more}
@@ -86,7 +87,8 @@ pub event_closed :
 event_closed joins carries is None name time r one inside put =
     puts_one (λ j. (fields : Json) × is fields × (j ≡ object_json (event_members name time fields)))
     (object_json (event_members name time inside.json)) _ r (inside.json, inside.is_so, refl) refl
-    (closed joins carries (head_tokens None name time) (json_tokens inside.json) (end_object ∷ []) r one inside.grown put)
+    (closed joins carries (head_tokens None name time) (json_tokens inside.json) (end_object ∷ []) r one
+    inside.grown put)
 event_closed joins carries is (Some file) name time r one inside put =
     puts_one
     (λ j. (fields : Json) × is fields × (j ≡ object_json (file_members (Some file) ++ event_members name time fields)))
@@ -170,12 +172,12 @@ pairs_grown joins p seen xs i {x} lt is all one =
 -- a field after its name
 pub field_grown :
     {S A : Type 0} {grows : S → List Token → S → Type 0} (joins : Joins grows) (p : Pools) (names : List (List ℕ))
-    {left : List (List ℕ)} (seen : A → Value) (xs : List A) (i : ℕ) {x : A} {name : List ℕ} {s a b t : S} →
+    {left : List (List ℕ)} (seen : A → Value) {xs : List A} {i : ℕ} {x : A} {name : List ℕ} {s a b t : S} →
     ElementAt xs i x → NameAt names left i name →
     GrowsAll grows member_tokens (AreFieldsJson p names (list_map seen (take i xs))) s a →
     grows a (key name ∷ []) b → GrowsOne grows (IsValueJson p (seen x)) b t →
     GrowsAll grows member_tokens (AreFieldsJson p names (list_map seen (take (i + 1) xs))) s t
-field_grown joins p names seen xs i {x} {name} {s} {a} {b} {t} at called all keyed v =
+field_grown joins p names seen {xs} {i} {x} {name} {s} {a} {b} {t} at called all keyed v =
     let vs = list_map seen (take i xs) in
     let j = v.json in
     let count : length vs ≡ i = length-map (take i xs) seen ∙ length-take-le i xs (omega (arith, at.inside)) in
@@ -190,14 +192,16 @@ field_grown joins p names seen xs i {x} {name} {s} {a} {b} {t} at called all key
 
 -- JSON was written to it
 pub stands_written :
-    {is : Json → Type 0} {s t : Written} (r : Result (Unit {0}) AllocError) → PutsOneBy WriterGrows WriterFails is s t r →
+    {is : Json → Type 0} {s t : Written} (r : Result (Unit {0}) AllocError) →
+    PutsOneBy WriterGrows WriterRefuses is s t r →
     OnOk r (Stands is s.tokens t.tokens)
 stands_written (Ok u) put = record { json = put.json; is_so = put.is_so; tokens = put.grown.0 }
 stands_written (Err e) put = tt
 
 -- and what stood before it stays
 pub stays_written :
-    {is : Json → Type 0} {s t : Written} (r : Result (Unit {0}) AllocError) → PutsOneBy WriterGrows WriterFails is s t r →
+    {is : Json → Type 0} {s t : Written} (r : Result (Unit {0}) AllocError) →
+    PutsOneBy WriterGrows WriterRefuses is s t r →
     t.before ≡ s.before
 stays_written (Ok u) put = put.grown.1
 stays_written (Err e) put = put
@@ -205,12 +209,12 @@ stays_written (Err e) put = put
 -- what was written to it
 pub written_one :
     {is : Json → Type 0} {s t : Written} (r : Result (Unit {0}) AllocError) → OnOk r (Stands is s.tokens t.tokens) →
-    t.before ≡ s.before → PutsOneBy WriterGrows WriterFails is s t r
+    t.before ≡ s.before → PutsOneBy WriterGrows WriterRefuses is s t r
 written_one (Ok u) put stays = record { json = put.json; is_so = put.is_so; grown = (put.tokens, stays) }
 written_one (Err e) put stays = stays
 
 pub written_tokens :
     {s t : Written} (tokens : List Token) (r : Result (Unit {0}) AllocError) → OnOk r (t.tokens ≡ s.tokens ++ tokens) →
-    t.before ≡ s.before → PutsBy WriterGrows WriterFails tokens s t r
+    t.before ≡ s.before → PutsBy WriterGrows WriterRefuses tokens s t r
 written_tokens tokens (Ok u) put stays = (put, stays)
 written_tokens tokens (Err e) put stays = stays

@@ -271,7 +271,8 @@ line_held told is s t old new begun put held =
         sent = went.sends.sent;
         took = went.sends.took;
         all = sym (append_assoc old.held.items text (line_feed ∷ []))
-            ∙ ap (λ (x : List ℕ). x ++ line_feed ∷ []) (sym (begun_text s (json_tokens put.json) begun) ∙ went.sends.all)
+            ∙ ap (λ (x : List ℕ). x ++ line_feed ∷ [])
+            (sym (begun_text s (json_tokens put.json) begun) ∙ went.sends.all)
             ∙ append_assoc went.sends.sent (not_sent t) (line_feed ∷ [])
             ∙ ap (λ (x : List ℕ). went.sends.sent ++ x) (sym held);
       };

@@ -172,4 +172,5 @@ file_members (Some name) = (codes "file", string name.now) ∷ []
 -- an event, the name of its file before its other members where one is told
 abbrev pub IsFiledJson : Option (Bor (List ℕ)) → ShownEvent → Json → Type 0
 IsFiledJson file e j =
-    (fields : Json) × IsFieldsJson e fields × (j ≡ object_json (file_members file ++ event_members e.name e.time fields))
+    (fields : Json) × IsFieldsJson e fields
+    × (j ≡ object_json (file_members file ++ event_members e.name e.time fields))

@@ -6,7 +6,7 @@ ghost use Rattle.json.specs.Token.{Token};
 ghost use Rattle.dial9_trace_format.specs.parts.Resolving.{as_pools};
 ghost use Rattle.trace_events.specs.Holding.{HoldsNone};
 ghost use Rattle.trace_json.specs.EventJson.{IsValueJson};
-ghost use Rattle.trace_json.specs.parts.Growing.{PutsBy, PutsOneBy, WriterFails, WriterGrows, mark_token};
+ghost use Rattle.trace_json.specs.parts.Growing.{PutsBy, PutsOneBy, WriterRefuses, WriterGrows, mark_token};
 ghost use Rattle.trace_json.specs.parts.GrowingLaws.{sent_carries, sent_empty, sent_joins};
 ghost use Rattle.trace_json.specs.parts.GrowingLaws.{writer_carries, writer_empty, writer_joins};
 ghost use Rattle.trace_json.specs.parts.Put.{PutsTokens, head_tokens};
@@ -92,7 +92,7 @@ impl GrowingJson for Writer {
 
     ghost grows = { WriterGrows };
 
-    ghost fails = { WriterFails };
+    ghost fails = { WriterRefuses };
 
     ghost empty = { writer_empty };
 

@@ -52,5 +52,5 @@ PutsAllBy grows fails each are old new (Err e) = fails old e new
 abbrev pub WriterGrows : Written → List Token → Written → Type 0
 WriterGrows old tokens new = (new.tokens ≡ old.tokens ++ tokens) × (new.before ≡ old.before)
 
-abbrev pub WriterFails : Written → AllocError → Written → Type 0
-WriterFails old e new = new.before ≡ old.before
+abbrev pub WriterRefuses : Written → AllocError → Written → Type 0
+WriterRefuses old e new = new.before ≡ old.before

@@ -11,7 +11,7 @@ use Rattle.json.proofs.Printed.Tokens.{print_from-append}
 use Rattle.trace_values.specs.Sending.{Account, TookOnly}
 use Rattle.trace_values.proofs.SendingLemmas.{TookOnly-none, TookOnly-join}
 use Rattle.trace_json.specs.Sending.{SendsPart}
-use Rattle.trace_json.specs.parts.Growing.{WriterGrows, WriterFails}
+use Rattle.trace_json.specs.parts.Growing.{WriterGrows, WriterRefuses}
 use Rattle.trace_json.specs.parts.SentJson.{IsReady, JsonFails, JsonGrows, Sends, Stops, faults_of, not_sent}
 use Rattle.trace_json.specs.declared.growing.SentJson.{SentJson}
 use Rattle.trace_json.specs.declared.growing.LineError.{LineError}
@@ -29,7 +29,7 @@ writer_joins s m t a b first second = (
 )
 
 pub writer_carries :
-    (s m t : Written) (a : List Token) (e : AllocError) → WriterGrows s a m → WriterFails m e t → WriterFails s e t
+    (s m t : Written) (a : List Token) (e : AllocError) → WriterGrows s a m → WriterRefuses m e t → WriterRefuses s e t
 writer_carries s m t a e first second = second ∙ first.1
 
 -- ---- one that sends
@@ -61,7 +61,8 @@ went_after start a b sent middle more rest first second =
 
 -- the text of tokens after others
 printed_after :
-    (c d : Bool) (a b : List Token) → d ≡ fold (λ _ t. ends t) c a → print_from c (a ++ b) ≡ print_from c a ++ print_from d b
+    (c d : Bool) (a b : List Token) → d ≡ fold (λ _ t. ends t) c a →
+    print_from c (a ++ b) ≡ print_from c a ++ print_from d b
 printed_after c d a b is = print_from-append c a b ∙ ap (λ (x : Bool). print_from c a ++ print_from x b) (sym is)
 
 pub sent_joins :

@@ -24,7 +24,7 @@ fields-preserved g c =
       names = c.first_name.ensures.others ∙ ap (drop 1) c.fields.invariant.names
           ∙ drop_next c.fields.value-index (names_of e.schema.now.fields);
       grown = field_grown g.met.L.GrowingJson.joins (as_pools e.string_pool.now e.stack_pool.now)
-          (names_of e.schema.now.fields) g.V.TraceValue.value e.values.now c.fields.value-index
+          (names_of e.schema.now.fields) g.V.TraceValue.value
           (record {
             inside = c.fields-test.true;
             is = c.value-item.is;

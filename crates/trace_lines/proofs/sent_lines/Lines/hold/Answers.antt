@@ -5,5 +5,6 @@ use Rattle.trace_lines.proofs.sent_lines.Lines.hold.Goals as goal
 
 pub returns : goal.returns
 returns g c =
-    subst (λ (e : ShownEvent). HoldsEvent g.W.TraceWrite.told c.args.self.now e c.hold_after.result c.hold_after.new.self)
+    subst
+    (λ (e : ShownEvent). HoldsEvent g.W.TraceWrite.told c.args.self.now e c.hold_after.result c.hold_after.new.self)
     c.line_event.ensures c.hold_after.ensures
