@@ -1,5 +1,5 @@
 -- Lines of JSON that are sent as they grow.
-use Rattle.std.proofs.Common.{◌≡◌, ℕ, ◌≤◌, ◌<◌, Bool, true, false, length, take, drop, List, [], ◌∷◌, ◌++◌, fold}
+use Rattle.std.proofs.Common.{◌≡◌, ℕ, ◌+◌, ◌≤◌, ◌<◌, Bool, true, false, length, take, drop, List, [], ◌∷◌, ◌++◌, fold}
 use Rattle.std.proofs.Common.{Result, Ok, Err, IfErr, OnOk, refl, sym, ap, subst, ◌∙◌, append_assoc, append-nil, arith}
 use Rattle.std.proofs.lemmas.List.{drop-append-le, length-append, take-append-drop}
 use Rattle.std.proofs.lemmas.List.Sums.{fold-append}
@@ -56,7 +56,8 @@ value_ends old new j put =
 -- ---- tokens are put
 
 longer : (k : ℕ) (xs ys : List ℕ) → k ≤ length xs → k ≤ length (xs ++ ys)
-longer k xs ys le = let n = length-append xs ys in omega arith
+longer k xs ys le =
+    let n : length (xs ++ ys) ≡ length xs + length ys = length-append xs ys in omega arith
 
 pub put_on :
     {W : Type 0} (told : W → Account) (s : SentJson W) (w : Written) (n : ℕ) (tokens : List Token) →
