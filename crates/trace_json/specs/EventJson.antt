@@ -1,6 +1,7 @@
 -- What JSON an event is.
 use Rattle.std.specs.Prelude.{◌≡◌, ℕ, ◌==◌, Bool, true, false, if◌then◌else◌, List, [], ◌∷◌, ◌++◌, drop, get_or}
-use Rattle.std.specs.Prelude.{map as list_map, Option, Some, None, Bor, codes, from_bits}
+use Rattle.std.specs.Prelude.{map as list_map, Option, Some, None, codes, from_bits}
+use Rattle.std.specs.Borrow.{Bor}
 use Rattle.std.specs.Bool.{MatchBool}
 use Rattle.std.specs.FinMap as finmap
 use Rattle.std.specs.Float.{float_is_finite}

@@ -48,7 +48,7 @@ pub(crate) trait GrowingJson {
 
     /// Puts a token that is no value.
     fn put_mark(&mut self, mark: Mark<'_>) -> Result<(), Self::Fault>
-        ensures { PutsBy grows fails (mark_token mark ∷ []) self.old self.new result };
+        ensures { PutsBy grows fails (mark_token mark.entry ∷ []) self.old self.new result };
 
     /// Puts the beginning of an event's object, up to its fields: the name of its file, where one is told, its own name
     /// and its time.
@@ -58,7 +58,7 @@ pub(crate) trait GrowingJson {
         name: &str,
         timestamp_ns: u64,
     ) -> Result<(), Self::Fault>
-        ensures { PutsBy grows fails (head_tokens file name.now timestamp_ns) self.old self.new
+        ensures { PutsBy grows fails (head_tokens file.entry name.now timestamp_ns) self.old self.new
             result };
 
     /// Puts a value that holds no others, with what the pools hold in place of ids.
@@ -129,7 +129,7 @@ impl GrowingJson for Writer {
 // Writes a token that is no value.
 #[inline(always)]
 fn put_mark_to(out: &mut Writer, mark: Mark<'_>) -> Result<(), AllocError>
-    ensures tokens { PutsTokens (mark_token mark ∷ []) out.old out.new result }
+    ensures tokens { PutsTokens (mark_token mark.entry ∷ []) out.old out.new result }
     ensures before { out.new.before ≡ out.old.before }
 {
     match mark {
