@@ -6,6 +6,7 @@ use Rattle.std.specs.List.{flat_map}
 use Rattle.std.specs.declared.alloc.AllocError.{AllocError}
 use Rattle.std.proofs.lemmas.List.{flat_map_more, take_all, length-map, length-take-le}
 use Rattle.json.specs.Json.{Json}
+use Rattle.json.specs.Print.{print}
 use Rattle.json.specs.Token.{Token, begin_object, end_object, begin_array, end_array, key}
 use Rattle.json.specs.Tree.{json_tokens}
 use Rattle.json.specs.Written.{Written}
@@ -15,6 +16,7 @@ use Rattle.trace_values.proofs.CompareLoops.{ElementAt}
 use Rattle.trace_wire.specs.Runs.{Pools}
 use Rattle.trace_json.specs.EventJson.{IsValueJson, AreItemsJson, ArePairsJson, IsPairOf, AreFieldsJson, list_json}
 use Rattle.trace_json.specs.EventJson.{object_json, pair_json, file_members, event_members}
+use Rattle.trace_json.specs.Lines.{IsTextOf}
 use Rattle.trace_json.specs.Put.{Stands}
 use Rattle.trace_json.specs.parts.Growing.{GrowsAll, GrowsOne, PutsAllBy, PutsBy, PutsOneBy, WriterRefuses, WriterGrows}
 use Rattle.trace_json.specs.parts.Put.{member_tokens, head_tokens}
@@ -218,3 +220,14 @@ pub written_tokens :
     t.before ≡ s.before → PutsBy WriterGrows WriterRefuses tokens s t r
 written_tokens tokens (Ok u) put stays = (put, stays)
 written_tokens tokens (Err e) put stays = stays
+
+-- the text of what was written to it from its beginning
+pub text_written :
+    {is : Json → Type 0} {s t : Written} {text : List ℕ} → s.tokens ≡ [] → s.before ≡ [] →
+    GrowsOne WriterGrows is s t → text ≡ t.before ++ print t.tokens → IsTextOf is text
+text_written {t = t} none empty put is = (
+  put.json,
+  put.is_so,
+  is ∙ ap (λ (b : List ℕ). b ++ print t.tokens) (put.grown.1 ∙ empty)
+      ∙ ap print (put.grown.0 ∙ ap (λ (ts : List Token). ts ++ json_tokens put.json) none),
+)
