@@ -146,14 +146,14 @@ pub pair_grown :
     {S : Type 0} {grows : S → List Token → S → Type 0} (joins : Joins grows) (is_key is_value : Json → Type 0)
     {s a b c t : S} → grows s (begin_array ∷ []) a → GrowsOne grows is_key a b → GrowsOne grows is_value b c →
     grows c (end_array ∷ []) t → GrowsOne grows (IsPairOf is_key is_value) s t
-pair_grown {grows = grows} joins is_key is_value {s} {a} {b} {c} {t} opening key value closing =
-    let k = json_tokens key.json in
-    let v = json_tokens value.json in
-    let rest = joins b c t v (end_array ∷ []) value.grown closing in
-    let inside = joins a b t k (v ++ end_array ∷ []) key.grown rest in
+pair_grown {grows = grows} joins is_key is_value {s} {a} {b} {c} {t} opening first second closing =
+    let k = json_tokens first.json in
+    let v = json_tokens second.json in
+    let rest = joins b c t v (end_array ∷ []) second.grown closing in
+    let inside = joins a b t k (v ++ end_array ∷ []) first.grown rest in
     record {
-      json = pair_json key.json value.json;
-      is_so = (key.json, value.json, key.is_so, value.is_so, refl);
+      json = pair_json first.json second.json;
+      is_so = (first.json, second.json, first.is_so, second.is_so, refl);
       grown = joins s a t (begin_array ∷ []) (k ++ (v ++ end_array ∷ [])) opening inside;
     }
 
