@@ -38,65 +38,68 @@ as_tokens grows s t a b same g = subst (λ (x : List Token). grows s x t) same g
 -- an opening token, what is inside, and a closing one
 pub closed :
     {S F : Type 0} {grows : S → List Token → S → Type 0} {fails : S → F → S → Type 0} (joins : Joins grows)
-    (carries : Carries grows fails) {s a b t : S} (opening inside closing : List Token) (r : Result (Unit {0}) F) →
+    (carries : Carries grows fails) {s a b : S} (t : S) (opening inside closing : List Token)
+    (r : Result (Unit {0}) F) →
     grows s opening a → grows a inside b → PutsBy grows fails closing b t r →
     PutsBy grows fails (opening ++ (inside ++ closing)) s t r
-closed joins carries {s} {a} {b} {t} opening inside closing (Ok u) one two three =
+closed joins carries {s} {a} {b} t opening inside closing (Ok u) one two three =
     joins s a t opening (inside ++ closing) one (joins a b t inside closing two three)
-closed joins carries {s} {a} {b} {t} opening inside closing (Err e) one two three =
+closed joins carries {s} {a} {b} t opening inside closing (Err e) one two three =
     carries s a t opening e one (carries a b t inside e two three)
 
 -- JSON with these tokens was put, of which something is so
 pub puts_one :
-    {S F : Type 0} {grows : S → List Token → S → Type 0} {fails : S → F → S → Type 0} (is : Json → Type 0) (j : Json)
-    {s t : S} (tokens : List Token) (r : Result (Unit {0}) F) → is j → tokens ≡ json_tokens j →
+    {S F : Type 0} (grows : S → List Token → S → Type 0) (fails : S → F → S → Type 0) (is : Json → Type 0) (j : Json)
+    (s t : S) (tokens : List Token) (r : Result (Unit {0}) F) → is j → tokens ≡ json_tokens j →
     PutsBy grows fails tokens s t r → PutsOneBy grows fails is s t r
-puts_one {grows = grows} is j {s} {t} tokens (Ok u) so same put =
+puts_one grows fails is j s t tokens (Ok u) so same put =
     record { json = j; is_so = so; grown = as_tokens grows s t tokens (json_tokens j) same put }
-puts_one is j tokens (Err e) so same put = put
+puts_one grows fails is j s t tokens (Err e) so same put = put
 
 -- a list was put from its first bracket to its last
 pub list_closed :
     {S F : Type 0} {grows : S → List Token → S → Type 0} {fails : S → F → S → Type 0} (joins : Joins grows)
-    (carries : Carries grows fails) (are : List Json → Type 0) {s a b t : S} (r : Result (Unit {0}) F) →
+    (carries : Carries grows fails) (are : List Json → Type 0) {s a b : S} (t : S) (r : Result (Unit {0}) F) →
     grows s (begin_array ∷ []) a → GrowsAll grows json_tokens are a b → PutsBy grows fails (end_array ∷ []) b t r →
     PutsOneBy grows fails (λ j. (js : List Json) × are js × (j ≡ list_json js)) s t r
-list_closed joins carries are r one all put =
-    puts_one (λ j. (js : List Json) × are js × (j ≡ list_json js)) (list_json all.all) _ r (all.all, all.are_so, refl)
+list_closed {grows = grows} {fails = fails} joins carries are {s} t r one all put =
+    puts_one grows fails (λ j. (js : List Json) × are js × (j ≡ list_json js)) (list_json all.all) s t _ r
+    (all.all, all.are_so, refl)
     (ap (λ (x : List Token). begin_array ∷ x) (sym (items_tokens_of all.all)))
-    (closed joins carries (begin_array ∷ []) (flat_map json_tokens all.all) (end_array ∷ []) r one all.grown put)
+    (closed joins carries t (begin_array ∷ []) (flat_map json_tokens all.all) (end_array ∷ []) r one all.grown put)
 
 -- an object was put from its first brace to its last
 pub object_closed :
     {S F : Type 0} {grows : S → List Token → S → Type 0} {fails : S → F → S → Type 0} (joins : Joins grows)
-    (carries : Carries grows fails) (are : List (List ℕ × Json) → Type 0) {s a b t : S} (r : Result (Unit {0}) F) →
+    (carries : Carries grows fails) (are : List (List ℕ × Json) → Type 0) {s a b : S} (t : S)
+    (r : Result (Unit {0}) F) →
     grows s (begin_object ∷ []) a → GrowsAll grows member_tokens are a b → PutsBy grows fails (end_object ∷ []) b t r →
     PutsOneBy grows fails (λ j. (ms : List (List ℕ × Json)) × are ms × (j ≡ object_json ms)) s t r
-object_closed joins carries are r one all put =
-    puts_one (λ j. (ms : List (List ℕ × Json)) × are ms × (j ≡ object_json ms)) (object_json all.all) _ r
+object_closed {grows = grows} {fails = fails} joins carries are {s} t r one all put =
+    puts_one grows fails (λ j. (ms : List (List ℕ × Json)) × are ms × (j ≡ object_json ms)) (object_json all.all) s t _ r
     (all.all, all.are_so, refl)
     (ap (λ (x : List Token). begin_object ∷ x) (sym (members_tokens_of all.all)))
-    (closed joins carries (begin_object ∷ []) (flat_map member_tokens all.all) (end_object ∷ []) r one all.grown put)
+    (closed joins carries t (begin_object ∷ []) (flat_map member_tokens all.all) (end_object ∷ []) r one all.grown put)
 
 -- an event was put from its brace to its last
 pub event_closed :
     {S F : Type 0} {grows : S → List Token → S → Type 0} {fails : S → F → S → Type 0} (joins : Joins grows)
     (carries : Carries grows fails) (is : Json → Type 0) (file : Option (Bor (List ℕ))) (name : List ℕ) (time : ℕ)
-    {s a b t : S} (r : Result (Unit {0}) F) →
+    {s a b : S} (t : S) (r : Result (Unit {0}) F) →
     grows s (head_tokens file name time) a → GrowsOne grows is a b → PutsBy grows fails (end_object ∷ []) b t r →
     PutsOneBy grows fails
     (λ j. (fields : Json) × is fields × (j ≡ object_json (file_members file ++ event_members name time fields))) s t r
-event_closed joins carries is None name time r one inside put =
-    puts_one (λ j. (fields : Json) × is fields × (j ≡ object_json (event_members name time fields)))
-    (object_json (event_members name time inside.json)) _ r (inside.json, inside.is_so, refl) refl
-    (closed joins carries (head_tokens None name time) (json_tokens inside.json) (end_object ∷ []) r one
+event_closed {grows = grows} {fails = fails} joins carries is None name time {s} t r one inside put =
+    puts_one grows fails (λ j. (fields : Json) × is fields × (j ≡ object_json (event_members name time fields)))
+    (object_json (event_members name time inside.json)) s t _ r (inside.json, inside.is_so, refl) refl
+    (closed joins carries t (head_tokens None name time) (json_tokens inside.json) (end_object ∷ []) r one
     inside.grown put)
-event_closed joins carries is (Some file) name time r one inside put =
-    puts_one
+event_closed {grows = grows} {fails = fails} joins carries is (Some file) name time {s} t r one inside put =
+    puts_one grows fails
     (λ j. (fields : Json) × is fields × (j ≡ object_json (file_members (Some file) ++ event_members name time fields)))
-    (object_json (file_members (Some file) ++ event_members name time inside.json)) _ r
+    (object_json (file_members (Some file) ++ event_members name time inside.json)) s t _ r
     (inside.json, inside.is_so, refl) refl
-    (closed joins carries (head_tokens (Some file) name time) (json_tokens inside.json) (end_object ∷ []) r one
+    (closed joins carries t (head_tokens (Some file) name time) (json_tokens inside.json) (end_object ∷ []) r one
     inside.grown put)
 
 -- ---- in loops
@@ -194,32 +197,30 @@ field_grown joins p names seen {xs} {i} {x} {name} {s} {a} {b} {t} at called all
 
 -- JSON was written to it
 pub stands_written :
-    {is : Json → Type 0} {s t : Written} (r : Result (Unit {0}) AllocError) →
-    PutsOneBy WriterGrows WriterRefuses is s t r →
-    OnOk r (Stands is s.tokens t.tokens)
-stands_written (Ok u) put = record { json = put.json; is_so = put.is_so; tokens = put.grown.0 }
-stands_written (Err e) put = tt
+    (is : Json → Type 0) (s t : Written) (r : Result (Unit {0}) AllocError) →
+    PutsOneBy WriterGrows WriterRefuses is s t r → OnOk r (Stands is s.tokens t.tokens)
+stands_written is s t (Ok u) put = record { json = put.json; is_so = put.is_so; tokens = put.grown.0 }
+stands_written is s t (Err e) put = tt
 
 -- and what stood before it stays
 pub stays_written :
-    {is : Json → Type 0} {s t : Written} (r : Result (Unit {0}) AllocError) →
-    PutsOneBy WriterGrows WriterRefuses is s t r →
-    t.before ≡ s.before
-stays_written (Ok u) put = put.grown.1
-stays_written (Err e) put = put
+    (is : Json → Type 0) (s t : Written) (r : Result (Unit {0}) AllocError) →
+    PutsOneBy WriterGrows WriterRefuses is s t r → t.before ≡ s.before
+stays_written is s t (Ok u) put = put.grown.1
+stays_written is s t (Err e) put = put
 
 -- what was written to it
 pub written_one :
-    {is : Json → Type 0} {s t : Written} (r : Result (Unit {0}) AllocError) → OnOk r (Stands is s.tokens t.tokens) →
+    (is : Json → Type 0) (s t : Written) (r : Result (Unit {0}) AllocError) → OnOk r (Stands is s.tokens t.tokens) →
     t.before ≡ s.before → PutsOneBy WriterGrows WriterRefuses is s t r
-written_one (Ok u) put stays = record { json = put.json; is_so = put.is_so; grown = (put.tokens, stays) }
-written_one (Err e) put stays = stays
+written_one is s t (Ok u) put stays = record { json = put.json; is_so = put.is_so; grown = (put.tokens, stays) }
+written_one is s t (Err e) put stays = stays
 
 pub written_tokens :
-    {s t : Written} (tokens : List Token) (r : Result (Unit {0}) AllocError) → OnOk r (t.tokens ≡ s.tokens ++ tokens) →
+    (s t : Written) (tokens : List Token) (r : Result (Unit {0}) AllocError) → OnOk r (t.tokens ≡ s.tokens ++ tokens) →
     t.before ≡ s.before → PutsBy WriterGrows WriterRefuses tokens s t r
-written_tokens tokens (Ok u) put stays = (put, stays)
-written_tokens tokens (Err e) put stays = stays
+written_tokens s t tokens (Ok u) put stays = (put, stays)
+written_tokens s t tokens (Err e) put stays = stays
 
 -- the text of what was written to it from its beginning
 pub text_written :

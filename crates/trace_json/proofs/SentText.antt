@@ -139,22 +139,23 @@ nothing_left t new =
     ∙ ap (λ (b : Bool). drop (standing_for b) (print t.writer.tokens)) new.goes_on
     ∙ ap (λ (ts : List Token). drop 1 (print ts)) new.tokens ∙ ap (drop 1) bracket_printed
 
--- the text that was taken from the writer, and what of it was not sent
-pub record IsTaken {W : Type 0} (s : SentJson W) (text left : List ℕ) : Type 0 where
+-- what is held, the text that was taken from the writer, and what of it was not sent
+pub record IsTaken {W : Type 0} (s : SentJson W) (held text left : List ℕ) : Type 0 where
+  pub held_is : held ≡ s.held.items
   pub text_is : text ≡ s.writer.before ++ print s.writer.tokens
   pub left_is : left ≡ drop (standing_for s.goes_on) text
 
 all_left :
-    {W : Type 0} (s : SentJson W) {text left : List ℕ} → IsTaken s text left → IsReady s →
-    s.held.items ++ left ≡ not_sent s
-all_left s taken ready =
-    ap (λ (x : List ℕ). s.held.items ++ x)
+    {W : Type 0} (s : SentJson W) {held text left : List ℕ} → IsTaken s held text left → IsReady s →
+    held ++ left ≡ not_sent s
+all_left s {left = left} taken ready =
+    ap (λ (x : List ℕ). x ++ left) taken.held_is ∙ ap (λ (x : List ℕ). s.held.items ++ x)
     (taken.left_is ∙ ap (drop (standing_for s.goes_on))
     (taken.text_is ∙ ap (λ (x : List ℕ). x ++ print s.writer.tokens) ready.before))
 
 pub line_gone :
-    {W : Type 0} (told : W → Account) (s t : SentJson W) {text left : List ℕ} → IsTaken s text left →
-    t.out.ghost_name ≡ s.out.ghost_name → TookOnly (told s.out.now) (told t.out.now) (s.held.items ++ left) [] →
+    {W : Type 0} (told : W → Account) (s t : SentJson W) {held text left : List ℕ} → IsTaken s held text left →
+    t.out.ghost_name ≡ s.out.ghost_name → TookOnly (told s.out.now) (told t.out.now) (held ++ left) [] →
     ends_value s.writer.tokens ≡ true → IsNewLine t → JsonGrows told s [] t
 line_gone told s t taken same took is new ready = record {
   same_writer = same;
@@ -170,9 +171,10 @@ line_gone told s t taken same took is new ready = record {
 
 -- the writer failed
 pub line_stuck :
-    {W : Type 0} (told : W → Account) (s t : SentJson W) {text left : List ℕ} (e : LineError) → IsTaken s text left →
+    {W : Type 0} (told : W → Account) (s t : SentJson W) {held text left : List ℕ} (e : LineError) →
+    IsTaken s held text left →
     t.out.ghost_name ≡ s.out.ghost_name →
-    SendsSome (told s.out.now) (told t.out.now) (s.held.items ++ left) (faults_of e) → JsonFails told s e t
+    SendsSome (told s.out.now) (told t.out.now) (held ++ left) (faults_of e) → JsonFails told s e t
 line_stuck told s t e taken same some ready = record {
   same_writer = same;
   tokens = [];
@@ -187,12 +189,12 @@ line_stuck told s t e taken same some ready = record {
 
 -- the line can't go on
 pub line_refused_on :
-    {W : Type 0} (told : W → Account) (s t : SentJson W) {text left : List ℕ} → IsTaken s text left →
-    t.out.ghost_name ≡ s.out.ghost_name → TookOnly (told s.out.now) (told t.out.now) (s.held.items ++ left) [] →
+    {W : Type 0} (told : W → Account) (s t : SentJson W) {held text left : List ℕ} → IsTaken s held text left →
+    t.out.ghost_name ≡ s.out.ghost_name → TookOnly (told s.out.now) (told t.out.now) (held ++ left) [] →
     JsonFails told s OutOfMemory t
-line_refused_on told s t {text} {left} taken same took =
+line_refused_on told s t {held} {left = left} taken same took =
     line_stuck told s t OutOfMemory taken same
-    (record { sent = s.held.items ++ left; others = []; took = took; all = sym (append-nil (s.held.items ++ left)) })
+    (record { sent = held ++ left; others = []; took = took; all = sym (append-nil (held ++ left)) })
 
 -- ---- bytes are sent
 
@@ -219,10 +221,10 @@ first_unsent first second some = record {
 
 -- the second ones, after the first
 pub second_sent :
-    {a b c : Account} (first second : List ℕ) (r : Result (Unit {0}) LineError) → TookOnly a b first [] →
+    {a b : Account} (c : Account) (first second : List ℕ) (r : Result (Unit {0}) LineError) → TookOnly a b first [] →
     SendsBytes b c second r → SendsBytes a c (first ++ second) r
-second_sent {a} {b} {c} first second (Ok u) one two = TookOnly-join a b c first second [] [] one two
-second_sent {a} {b} {c} first second (Err e) one two = record {
+second_sent {a} {b} c first second (Ok u) one two = TookOnly-join a b c first second [] [] one two
+second_sent {a} {b} c first second (Err e) one two = record {
   sent = first ++ two.sent;
   others = two.others;
   took = TookOnly-join a b c first two.sent [] (faults_of e) one two.took;
@@ -259,10 +261,10 @@ begun_text s {old} tokens begun =
 -- the line is held
 pub line_held :
     {W : Type 0} (told : W → Account) (is : Json → Type 0) (s t : SentJson W) (old new : JsonLines) →
-    IsBegun s old.held.items → GrowsOne (JsonGrows told) is s t →
+    GrowsOne (JsonGrows told) is s t → IsBegun s old.held.items →
     new.held.items ≡ not_sent t ++ line_feed ∷ [] →
     SendsLine is (told s.out.now) (told t.out.now) old new
-line_held told is s t old new begun put held =
+line_held told is s t old new put begun held =
     let went = put.grown (begun_ready s begun) in
     let text = json_text put.json in
     record {
@@ -289,8 +291,8 @@ ended old text sent others is =
 -- it is not put
 pub line_not_put :
     {W : Type 0} (told : W → Account) (s t : SentJson W) (old : JsonLines) (e : LineError) →
-    IsBegun s old.held.items → JsonFails told s e t → LineFails (told s.out.now) (told t.out.now) old e
-line_not_put told s t old OutOfMemory begun fails =
+    JsonFails told s e t → IsBegun s old.held.items → LineFails (told s.out.now) (told t.out.now) old e
+line_not_put told s t old OutOfMemory fails begun =
     let stops = fails (begun_ready s begun) in
     record {
       tokens = stops.tokens;
@@ -300,7 +302,7 @@ line_not_put told s t old OutOfMemory begun fails =
       all = ended old.held.items (print stops.tokens) stops.sends.sent stops.sends.others
           (sym (begun_text s stops.tokens begun) ∙ stops.sends.all);
     }
-line_not_put told s t old (Writer kind) begun fails =
+line_not_put told s t old (Writer kind) fails begun =
     let stops = fails (begun_ready s begun) in
     record {
       tokens = stops.tokens;
@@ -314,9 +316,9 @@ line_not_put told s t old (Writer kind) begun fails =
 -- it is not held
 pub line_not_held :
     {W : Type 0} (told : W → Account) (is : Json → Type 0) (s t : SentJson W) (old : JsonLines) (e : LineError) →
-    IsBegun s old.held.items → GrowsOne (JsonGrows told) is s t → e ≡ OutOfMemory →
+    GrowsOne (JsonGrows told) is s t → IsBegun s old.held.items → e ≡ OutOfMemory →
     LineFails (told s.out.now) (told t.out.now) old e
-line_not_held told is s t old e begun put refused =
+line_not_held told is s t old e put begun refused =
     let went = put.grown (begun_ready s begun) in
     subst (λ (x : LineError). LineFails (told s.out.now) (told t.out.now) old x) (sym refused)
     (record {
@@ -327,6 +329,28 @@ line_not_held told is s t old e begun put refused =
       all = ended old.held.items (json_text put.json) went.sends.sent (not_sent t)
           (sym (begun_text s (json_tokens put.json) begun) ∙ went.sends.all);
     })
+
+-- the line ends by an answer
+pub line_ends :
+    {W : Type 0} (told : W → Account) (is : Json → Type 0) (s t : SentJson W) (old new : JsonLines)
+    {held text left : List ℕ} (r : Result (Unit {0}) LineError) →
+    GrowsOne (JsonGrows told) is s t → IsBegun s old.held.items → IsTaken t held text left →
+    OnOk r (new.held.items ≡ held ++ (left ++ line_feed ∷ [])) →
+    OnOk r (SendsLine is (told s.out.now) (told t.out.now) old new)
+line_ends told is s t old new {held} {left = left} (Ok u) put begun taken end =
+    let went = put.grown (begun_ready s begun) in
+    line_held told is s t old new put begun
+    (end ∙ sym (append_assoc held left (line_feed ∷ []))
+    ∙ ap (λ (x : List ℕ). x ++ line_feed ∷ []) (all_left t taken went.ready))
+line_ends told is s t old new (Err e) put begun taken end = tt
+
+pub line_not_ended :
+    {W : Type 0} (told : W → Account) (is : Json → Type 0) (s t : SentJson W) (old : JsonLines)
+    (r : Result (Unit {0}) LineError) →
+    GrowsOne (JsonGrows told) is s t → IsBegun s old.held.items → IfErr r (λ e. e ≡ OutOfMemory) →
+    IfErr r (LineFails (told s.out.now) (told t.out.now) old)
+line_not_ended told is s t old (Ok u) put begun refused = tt
+line_not_ended told is s t old (Err e) put begun refused = line_not_held told is s t old e put begun refused
 
 -- ---- lines are sent
 
@@ -347,10 +371,10 @@ held_line_sent {a} {b} {c} is old mid new line took none = record {
 
 -- it is not
 pub held_line_unsent :
-    {a b c : Account} (is : Json → Type 0) (old mid : JsonLines) (e : LineError) → SendsLine is a b old mid →
+    {a b : Account} (c : Account) (is : Json → Type 0) (old mid : JsonLines) (e : LineError) → SendsLine is a b old mid →
     HeldFails b c mid e → LineFails a c old e
-held_line_unsent is old mid OutOfMemory line fails = absurd fails
-held_line_unsent {a} {b} {c} is old mid (Writer kind) line (n, few, took) = record {
+held_line_unsent c is old mid OutOfMemory line fails = absurd fails
+held_line_unsent {a} {b} c is old mid (Writer kind) line (n, few, took) = record {
   tokens = json_tokens line.json;
   sent = line.sends.sent ++ take n mid.held.items;
   others = drop n mid.held.items;
@@ -361,14 +385,14 @@ held_line_unsent {a} {b} {c} is old mid (Writer kind) line (n, few, took) = reco
 
 -- the same by an answer
 pub line_then_sent :
-    {a b c : Account} (is : Json → Type 0) (old mid new : JsonLines) (r : Result (Unit {0}) LineError) →
+    {a b : Account} (c : Account) (is : Json → Type 0) (old mid new : JsonLines) (r : Result (Unit {0}) LineError) →
     SendsLine is a b old mid → OnOk r (TookOnly b c mid.held.items []) → OnOk r (new.held.items ≡ []) →
     OnOk r (SendsLine is a c old new)
-line_then_sent is old mid new (Ok u) line took none = held_line_sent is old mid new line took none
-line_then_sent is old mid new (Err e) line took none = tt
+line_then_sent c is old mid new (Ok u) line took none = held_line_sent is old mid new line took none
+line_then_sent c is old mid new (Err e) line took none = tt
 
 pub line_then_unsent :
-    {a b c : Account} (is : Json → Type 0) (old mid : JsonLines) (r : Result (Unit {0}) LineError) →
+    {a b : Account} (c : Account) (is : Json → Type 0) (old mid : JsonLines) (r : Result (Unit {0}) LineError) →
     SendsLine is a b old mid → IfErr r (HeldFails b c mid) → IfErr r (LineFails a c old)
-line_then_unsent is old mid (Ok u) line fails = tt
-line_then_unsent is old mid (Err e) line fails = held_line_unsent is old mid e line fails
+line_then_unsent c is old mid (Ok u) line fails = tt
+line_then_unsent c is old mid (Err e) line fails = held_line_unsent c is old mid e line fails

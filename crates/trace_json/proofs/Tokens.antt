@@ -146,26 +146,17 @@ put_four (Err x) d new same p e = tt
 
 -- five tokens were put
 pub put_five :
-    {E : Type 0} (r : Result (Unit {0}) E) {a b c d : Token} (x : Token) {old three four : List Token}
+    {E : Type 0} (r : Result (Unit {0}) E) {a b c : Token} (d x : Token) {old three four : List Token}
     (new : List Token) → ThreePut a b c old three → four ≡ three ++ d ∷ [] → OnOk r (new ≡ four ++ x ∷ []) →
     OnOk r (new ≡ old ++ a ∷ b ∷ c ∷ d ∷ x ∷ [])
-put_five (Ok u) x new p q e = rw (e, q, p.third, p.second, p.first) (simp append_assoc)
-put_five (Err z) x new p q e = tt
+put_five (Ok u) d x new p q e = rw (e, q, p.third, p.second, p.first) (simp append_assoc)
+put_five (Err z) d x new p q e = tt
 
 -- tokens after one, and others after these
 pub put_after_one :
-    {E : Type 0} (r : Result (Unit {0}) E) (a : Token) (b c : List Token) {old one two : List Token}
-    (new : List Token) →
+    {E : Type 0} (r : Result (Unit {0}) E) (a : Token) (b c old : List Token) {one two : List Token} (new : List Token) →
     one ≡ old ++ a ∷ [] → two ≡ one ++ b → OnOk r (new ≡ two ++ c) → OnOk r (new ≡ old ++ a ∷ (b ++ c))
-put_after_one r a b c {old} new first second last = enclosed r old new (a ∷ []) b c first second last
-
--- two tokens were put
-pub put_two :
-    {E : Type 0} (r : Result (Unit {0}) E) (a b : Token) {old one : List Token} (new : List Token) →
-    one ≡ old ++ a ∷ [] → OnOk r (new ≡ one ++ b ∷ []) → OnOk r (new ≡ old ++ a ∷ b ∷ [])
-put_two (Ok u) a b {old} new first e =
-    e ∙ ap (λ (t : List Token). t ++ b ∷ []) first ∙ append_assoc old (a ∷ []) (b ∷ [])
-put_two (Err x) a b new first e = tt
+put_after_one r a b c old new first second last = enclosed r old new (a ∷ []) b c first second last
 
 -- ---- things written in a loop
 
