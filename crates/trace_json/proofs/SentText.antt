@@ -330,27 +330,44 @@ line_not_held told is s t old e put begun refused =
           (sym (begun_text s (json_tokens put.json) begun) ∙ went.sends.all);
     })
 
--- the line ends by an answer
+-- ---- the same, and the writer is given back
+
+-- where it is the one that was given, it is as it was left
+abbrev pub IsBack : {W : Type 0} → SentJson W → SentJson W → W → Type 0
+IsBack s t out = s.out.ghost_name ≡ t.out.ghost_name → out ≡ t.out.now
+
 pub line_ends :
-    {W : Type 0} (told : W → Account) (is : Json → Type 0) (s t : SentJson W) (old new : JsonLines)
+    {W : Type 0} (told : W → Account) (is : Json → Type 0) (s t : SentJson W) (out : W) (old new : JsonLines)
     {held text left : List ℕ} (r : Result (Unit {0}) LineError) →
-    GrowsOne (JsonGrows told) is s t → IsBegun s old.held.items → IsTaken t held text left →
+    GrowsOne (JsonGrows told) is s t → IsBack s t out → IsBegun s old.held.items → IsTaken t held text left →
     OnOk r (new.held.items ≡ held ++ (left ++ line_feed ∷ [])) →
-    OnOk r (SendsLine is (told s.out.now) (told t.out.now) old new)
-line_ends told is s t old new {held} {left = left} (Ok u) put begun taken end =
+    OnOk r (SendsLine is (told s.out.now) (told out) old new)
+line_ends {W} told is s t out old new {held} {left = left} (Ok u) put back begun taken end =
     let went = put.grown (begun_ready s begun) in
-    line_held told is s t old new put begun
+    subst (λ (w : W). SendsLine is (told s.out.now) (told w) old new) (sym (back (sym went.same_writer)))
+    (line_held told is s t old new put begun
     (end ∙ sym (append_assoc held left (line_feed ∷ []))
-    ∙ ap (λ (x : List ℕ). x ++ line_feed ∷ []) (all_left t taken went.ready))
-line_ends told is s t old new (Err e) put begun taken end = tt
+    ∙ ap (λ (x : List ℕ). x ++ line_feed ∷ []) (all_left t taken went.ready)))
+line_ends told is s t out old new (Err e) put back begun taken end = tt
 
 pub line_not_ended :
-    {W : Type 0} (told : W → Account) (is : Json → Type 0) (s t : SentJson W) (old : JsonLines)
+    {W : Type 0} (told : W → Account) (is : Json → Type 0) (s t : SentJson W) (out : W) (old : JsonLines)
     (r : Result (Unit {0}) LineError) →
-    GrowsOne (JsonGrows told) is s t → IsBegun s old.held.items → IfErr r (λ e. e ≡ OutOfMemory) →
-    IfErr r (LineFails (told s.out.now) (told t.out.now) old)
-line_not_ended told is s t old (Ok u) put begun refused = tt
-line_not_ended told is s t old (Err e) put begun refused = line_not_held told is s t old e put begun refused
+    GrowsOne (JsonGrows told) is s t → IsBack s t out → IsBegun s old.held.items → IfErr r (λ e. e ≡ OutOfMemory) →
+    IfErr r (LineFails (told s.out.now) (told out) old)
+line_not_ended told is s t out old (Ok u) put back begun refused = tt
+line_not_ended {W} told is s t out old (Err e) put back begun refused =
+    let went = put.grown (begun_ready s begun) in
+    subst (λ (w : W). LineFails (told s.out.now) (told w) old e) (sym (back (sym went.same_writer)))
+    (line_not_held told is s t old e put begun refused)
+
+pub line_stops :
+    {W : Type 0} (told : W → Account) (s t : SentJson W) (out : W) (old : JsonLines) (e : LineError) →
+    JsonFails told s e t → IsBack s t out → IsBegun s old.held.items → LineFails (told s.out.now) (told out) old e
+line_stops {W} told s t out old e fails back begun =
+    let stops = fails (begun_ready s begun) in
+    subst (λ (w : W). LineFails (told s.out.now) (told w) old e) (sym (back (sym stops.same_writer)))
+    (line_not_put told s t old e fails begun)
 
 -- ---- lines are sent
 

@@ -16,7 +16,7 @@ put_list-returns-3 g t c =
     list_closed g.met.L.GrowingJson.joins g.met.L.GrowingJson.carries
     (AreItemsJson (as_pools c.args.strings.now c.args.stacks.now)
     (values_to_items (list_map g.V.TraceValue.value c.args.items.now)))
-    c.put_mark-2.new.out c.put_mark-2.result c.in-Ok-tri.ensures c.in-Ok-tri-2.ensures c.put_mark-2.ensures
+    c.put_mark-2.new.self c.put_mark-2.result c.in-Ok-tri.ensures c.in-Ok-tri-2.ensures c.put_mark-2.ensures
 
 pub put_map-returns-2 : goal.put_map-returns-2
 put_map-returns-2 g t c = g.met.L.GrowingJson.carries _ _ _ _ _ c.in-Ok-tri.ensures c.in-Err-tri-2.ensures
@@ -27,7 +27,7 @@ put_map-returns-3 g t c =
     list_closed g.met.L.GrowingJson.joins g.met.L.GrowingJson.carries
     (ArePairsJson (as_pools c.args.strings.now c.args.stacks.now)
     (values_to_pairs (list_map (λ p. (value p.0, value p.1)) c.args.pairs.now)))
-    c.put_mark-2.new.out c.put_mark-2.result c.in-Ok-tri.ensures c.in-Ok-tri-2.ensures c.put_mark-2.ensures
+    c.put_mark-2.new.self c.put_mark-2.result c.in-Ok-tri.ensures c.in-Ok-tri-2.ensures c.put_mark-2.ensures
 
 pub put_items-items-init : goal.put_items-items-init
 put_items-items-init g t c =
