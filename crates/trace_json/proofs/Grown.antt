@@ -1,7 +1,7 @@
 -- JSON that is put to what grows, part by part.
 use Rattle.std.proofs.Common.{◌≡◌, ℕ, ◌+◌, ◌<◌, ◌≤◌, length, take, drop, get_or, List, [], ◌∷◌, ◌++◌, map as list_map}
 use Rattle.std.proofs.Common.{Result, Ok, Err, OnOk, Option, None, Some, Bor}
-use Rattle.std.proofs.Common.{refl, sym, ap, subst, ◌∙◌, append_assoc, arith}
+use Rattle.std.proofs.Common.{refl, sym, ap, subst, ◌∙◌, arith}
 use Rattle.std.specs.List.{flat_map}
 use Rattle.std.specs.declared.alloc.AllocError.{AllocError}
 use Rattle.std.proofs.lemmas.List.{flat_map_more, take_all, length-map, length-take-le}
@@ -18,7 +18,7 @@ use Rattle.trace_json.specs.EventJson.{IsValueJson, AreItemsJson, ArePairsJson, 
 use Rattle.trace_json.specs.EventJson.{object_json, pair_json, file_members, event_members}
 use Rattle.trace_json.specs.Lines.{IsTextOf}
 use Rattle.trace_json.specs.Put.{Stands}
-use Rattle.trace_json.specs.parts.Growing.{GrowsAll, GrowsOne, PutsAllBy, PutsBy, PutsOneBy, WriterRefuses, WriterGrows}
+use Rattle.trace_json.specs.parts.Growing.{GrowsAll, GrowsOne, PutsBy, PutsOneBy, WriterRefuses, WriterGrows}
 use Rattle.trace_json.specs.parts.Put.{member_tokens, head_tokens}
 use Rattle.trace_json.proofs.Tokens.{items_tokens_of, members_tokens_of}
 use Rattle.trace_json.proofs.OneMore.{IsPairJson, NameAt, fields_more, items_more, pairs_more, seen_more}

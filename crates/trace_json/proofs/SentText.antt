@@ -1,5 +1,5 @@
 -- Lines of JSON that are sent as they grow.
-use Rattle.std.proofs.Common.{◌≡◌, ℕ, ◌+◌, ◌≤◌, ◌<◌, Bool, true, false, length, take, drop, List, [], ◌∷◌, ◌++◌, fold}
+use Rattle.std.proofs.Common.{◌≡◌, ℕ, ◌+◌, ◌≤◌, Bool, true, false, length, take, drop, List, [], ◌∷◌, ◌++◌, fold}
 use Rattle.std.proofs.Common.{Result, Ok, Err, IfErr, OnOk, refl, sym, ap, subst, ◌∙◌, append_assoc, append-nil, arith}
 use Rattle.std.proofs.lemmas.List.{drop-append-le, length-append, take-append-drop}
 use Rattle.std.proofs.lemmas.List.Sums.{fold-append}
@@ -11,11 +11,10 @@ use Rattle.json.specs.Tree.{json_tokens, items_tokens, members_tokens}
 use Rattle.json.specs.Written.{Written}
 use Rattle.json.proofs.Printed.Tokens.{print_from-append}
 use Rattle.trace_values.specs.Sending.{Account, TookOnly}
-use Rattle.trace_values.specs.Encoding.{SendFails}
 use Rattle.trace_values.proofs.SendingLemmas.{TookOnly-none, TookOnly-join}
 use Rattle.std.specs.declared.io.ErrorKind.{ErrorKind}
 use Rattle.trace_json.specs.Lines.{json_text, line_feed}
-use Rattle.trace_json.specs.Sending.{HeldFails, LineFails, SendsLine, SendsPart, StopsWithin}
+use Rattle.trace_json.specs.Sending.{HeldFails, LineFails, SendsLine}
 use Rattle.trace_json.specs.parts.Growing.{GrowsOne, PutsBy, PutsOneBy}
 use Rattle.trace_json.specs.parts.GrowingLaws.{nothing_printed, sent_carries, sent_joins}
 use Rattle.trace_json.specs.parts.SentJson.{IsReady, JsonFails, JsonGrows, SendsBytes, SendsSome, faults_of, left_of}

@@ -7,9 +7,9 @@ use Rattle.std.proofs.lemmas.List.Folds.{flat_map-map}
 use Rattle.json.specs.Json.{Json}
 use Rattle.json.specs.Token.{Token, begin_object, end_object, begin_array, end_array}
 use Rattle.json.specs.Tree.{json_tokens, items_tokens, members_tokens}
-use Rattle.trace_json.specs.EventJson.{items_of, members_of, list_json, object_json, pair_json, IsPairOf, event_json}
+use Rattle.trace_json.specs.EventJson.{items_of, members_of, list_json, object_json, pair_json, IsPairOf}
 use Rattle.trace_json.specs.Put.{Stands}
-use Rattle.trace_json.specs.parts.Put.{StandAll, member_tokens, head_tokens}
+use Rattle.trace_json.specs.parts.Put.{StandAll, member_tokens}
 
 -- ---- lists and objects, by their parts
 

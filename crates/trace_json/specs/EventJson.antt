@@ -1,11 +1,11 @@
 -- What JSON an event is.
-use Rattle.std.specs.Prelude.{◌≡◌, ℕ, ◌==◌, Bool, true, false, if◌then◌else◌, List, [], ◌∷◌, ◌++◌, drop, get_or}
+use Rattle.std.specs.Prelude.{◌≡◌, ℕ, ◌==◌, if◌then◌else◌, List, [], ◌∷◌, ◌++◌, drop, get_or}
 use Rattle.std.specs.Prelude.{map as list_map, Option, Some, None, codes, from_bits}
 use Rattle.std.specs.Borrow.{Bor}
 use Rattle.std.specs.Bool.{MatchBool}
 use Rattle.std.specs.FinMap as finmap
 use Rattle.std.specs.Float.{float_is_finite}
-use Rattle.std.specs.Float.Ieee.{Float, binary64}
+use Rattle.std.specs.Float.Ieee.{binary64}
 use Rattle.std.specs.Float.Parse.{parse_float}
 use Rattle.std.specs.Fmt.{decimal, signed_decimal}
 use Rattle.std.specs.Str.{is_utf8}

@@ -1,18 +1,16 @@
 -- For private contracts: the laws of JSON that grows.
 use Rattle.std.specs.Prelude.{◌≡◌, ℕ, Bool, List, [], ◌++◌, fold}
 use Rattle.std.specs.declared.alloc.AllocError.{AllocError}
-use Rattle.std.specs.declared.io.ErrorKind.{ErrorKind}
 use Rattle.std.proofs.Common.{refl, sym, ap, ◌∙◌, append-nil, append_assoc}
 use Rattle.std.proofs.lemmas.List.Sums.{fold-append}
-use Rattle.json.specs.Print.{ends, ends_value, print, print_from}
+use Rattle.json.specs.Print.{ends, ends_value, print_from}
 use Rattle.json.specs.Token.{Token}
 use Rattle.json.specs.Written.{Written}
 use Rattle.json.proofs.Printed.Tokens.{print_from-append}
-use Rattle.trace_values.specs.Sending.{Account, TookOnly}
+use Rattle.trace_values.specs.Sending.{Account}
 use Rattle.trace_values.proofs.SendingLemmas.{TookOnly-none, TookOnly-join}
-use Rattle.trace_json.specs.Sending.{SendsPart}
 use Rattle.trace_json.specs.parts.Growing.{WriterGrows, WriterRefuses}
-use Rattle.trace_json.specs.parts.SentJson.{IsReady, JsonFails, JsonGrows, Sends, Stops, faults_of, not_sent}
+use Rattle.trace_json.specs.parts.SentJson.{JsonFails, JsonGrows, faults_of, not_sent}
 use Rattle.trace_json.specs.declared.growing.SentJson.{SentJson}
 use Rattle.trace_json.specs.declared.growing.LineError.{LineError}
 
