@@ -50,11 +50,11 @@ closed joins carries {s} {a} {b} t opening inside closing (Err e) one two three 
 -- JSON with these tokens was put, of which something is so
 pub puts_one :
     {S F : Type 0} (grows : S → List Token → S → Type 0) (fails : S → F → S → Type 0) (is : Json → Type 0) (j : Json)
-    (s t : S) (tokens : List Token) (r : Result (Unit {0}) F) → is j → tokens ≡ json_tokens j →
+    (s t : S) {tokens : List Token} (r : Result (Unit {0}) F) → is j → tokens ≡ json_tokens j →
     PutsBy grows fails tokens s t r → PutsOneBy grows fails is s t r
-puts_one grows fails is j s t tokens (Ok u) so same put =
+puts_one grows fails is j s t {tokens} (Ok u) so same put =
     record { json = j; is_so = so; grown = as_tokens grows s t tokens (json_tokens j) same put }
-puts_one grows fails is j s t tokens (Err e) so same put = put
+puts_one grows fails is j s t (Err e) so same put = put
 
 -- a list was put from its first bracket to its last
 pub list_closed :
@@ -63,7 +63,7 @@ pub list_closed :
     grows s (begin_array ∷ []) a → GrowsAll grows json_tokens are a b → PutsBy grows fails (end_array ∷ []) b t r →
     PutsOneBy grows fails (λ j. (js : List Json) × are js × (j ≡ list_json js)) s t r
 list_closed {grows = grows} {fails = fails} joins carries are {s} t r one all put =
-    puts_one grows fails (λ j. (js : List Json) × are js × (j ≡ list_json js)) (list_json all.all) s t _ r
+    puts_one grows fails (λ j. (js : List Json) × are js × (j ≡ list_json js)) (list_json all.all) s t r
     (all.all, all.are_so, refl)
     (ap (λ (x : List Token). begin_array ∷ x) (sym (items_tokens_of all.all)))
     (closed joins carries t (begin_array ∷ []) (flat_map json_tokens all.all) (end_array ∷ []) r one all.grown put)
@@ -76,7 +76,7 @@ pub object_closed :
     grows s (begin_object ∷ []) a → GrowsAll grows member_tokens are a b → PutsBy grows fails (end_object ∷ []) b t r →
     PutsOneBy grows fails (λ j. (ms : List (List ℕ × Json)) × are ms × (j ≡ object_json ms)) s t r
 object_closed {grows = grows} {fails = fails} joins carries are {s} t r one all put =
-    puts_one grows fails (λ j. (ms : List (List ℕ × Json)) × are ms × (j ≡ object_json ms)) (object_json all.all) s t _ r
+    puts_one grows fails (λ j. (ms : List (List ℕ × Json)) × are ms × (j ≡ object_json ms)) (object_json all.all) s t r
     (all.all, all.are_so, refl)
     (ap (λ (x : List Token). begin_object ∷ x) (sym (members_tokens_of all.all)))
     (closed joins carries t (begin_object ∷ []) (flat_map member_tokens all.all) (end_object ∷ []) r one all.grown put)
@@ -84,20 +84,20 @@ object_closed {grows = grows} {fails = fails} joins carries are {s} t r one all 
 -- an event was put from its brace to its last
 pub event_closed :
     {S F : Type 0} {grows : S → List Token → S → Type 0} {fails : S → F → S → Type 0} (joins : Joins grows)
-    (carries : Carries grows fails) (is : Json → Type 0) (file : Option (Bor (List ℕ))) (name : List ℕ) (time : ℕ)
+    (carries : Carries grows fails) {is : Json → Type 0} (file : Option (Bor (List ℕ))) (name : List ℕ) (time : ℕ)
     {s a b : S} (t : S) (r : Result (Unit {0}) F) →
     grows s (head_tokens file name time) a → GrowsOne grows is a b → PutsBy grows fails (end_object ∷ []) b t r →
     PutsOneBy grows fails
     (λ j. (fields : Json) × is fields × (j ≡ object_json (file_members file ++ event_members name time fields))) s t r
-event_closed {grows = grows} {fails = fails} joins carries is None name time {s} t r one inside put =
+event_closed {grows = grows} {fails = fails} joins carries {is} None name time {s} t r one inside put =
     puts_one grows fails (λ j. (fields : Json) × is fields × (j ≡ object_json (event_members name time fields)))
-    (object_json (event_members name time inside.json)) s t _ r (inside.json, inside.is_so, refl) refl
+    (object_json (event_members name time inside.json)) s t r (inside.json, inside.is_so, refl) refl
     (closed joins carries t (head_tokens None name time) (json_tokens inside.json) (end_object ∷ []) r one
     inside.grown put)
-event_closed {grows = grows} {fails = fails} joins carries is (Some file) name time {s} t r one inside put =
+event_closed {grows = grows} {fails = fails} joins carries {is} (Some file) name time {s} t r one inside put =
     puts_one grows fails
     (λ j. (fields : Json) × is fields × (j ≡ object_json (file_members (Some file) ++ event_members name time fields)))
-    (object_json (file_members (Some file) ++ event_members name time inside.json)) s t _ r
+    (object_json (file_members (Some file) ++ event_members name time inside.json)) s t r
     (inside.json, inside.is_so, refl) refl
     (closed joins carries t (head_tokens (Some file) name time) (json_tokens inside.json) (end_object ∷ []) r one
     inside.grown put)

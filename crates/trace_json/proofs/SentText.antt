@@ -336,26 +336,26 @@ abbrev pub IsBack : {W : Type 0} → SentJson W → SentJson W → W → Type 0
 IsBack s t out = s.out.ghost_name ≡ t.out.ghost_name → out ≡ t.out.now
 
 pub line_ends :
-    {W : Type 0} (told : W → Account) (is : Json → Type 0) (s t : SentJson W) (out : W) (old new : JsonLines)
+    {W : Type 0} (told : W → Account) {is : Json → Type 0} {s t : SentJson W} (out : W) (old new : JsonLines)
     {held text left : List ℕ} (r : Result (Unit {0}) LineError) →
     GrowsOne (JsonGrows told) is s t → IsBack s t out → IsBegun s old.held.items → IsTaken t held text left →
     OnOk r (new.held.items ≡ held ++ (left ++ line_feed ∷ [])) →
     OnOk r (SendsLine is (told s.out.now) (told out) old new)
-line_ends {W} told is s t out old new {held} {left = left} (Ok u) put back begun taken end =
+line_ends {W} told {is} {s} {t} out old new {held} {left = left} (Ok u) put back begun taken end =
     let went = put.grown (begun_ready s begun) in
     subst (λ (w : W). SendsLine is (told s.out.now) (told w) old new) (sym (back (sym went.same_writer)))
     (line_held told is s t old new put begun
     (end ∙ sym (append_assoc held left (line_feed ∷ []))
     ∙ ap (λ (x : List ℕ). x ++ line_feed ∷ []) (all_left t taken went.ready)))
-line_ends told is s t out old new (Err e) put back begun taken end = tt
+line_ends told out old new (Err e) put back begun taken end = tt
 
 pub line_not_ended :
-    {W : Type 0} (told : W → Account) (is : Json → Type 0) (s t : SentJson W) (out : W) (old : JsonLines)
+    {W : Type 0} (told : W → Account) {is : Json → Type 0} {s t : SentJson W} (out : W) (old : JsonLines)
     (r : Result (Unit {0}) LineError) →
     GrowsOne (JsonGrows told) is s t → IsBack s t out → IsBegun s old.held.items → IfErr r (λ e. e ≡ OutOfMemory) →
     IfErr r (LineFails (told s.out.now) (told out) old)
-line_not_ended told is s t out old (Ok u) put back begun refused = tt
-line_not_ended {W} told is s t out old (Err e) put back begun refused =
+line_not_ended told out old (Ok u) put back begun refused = tt
+line_not_ended {W} told {is} {s} {t} out old (Err e) put back begun refused =
     let went = put.grown (begun_ready s begun) in
     subst (λ (w : W). LineFails (told s.out.now) (told w) old e) (sym (back (sym went.same_writer)))
     (line_not_held told is s t old e put begun refused)
@@ -387,7 +387,8 @@ held_line_sent {a} {b} {c} is old mid new line took none = record {
 
 -- it is not
 pub held_line_unsent :
-    {a b : Account} (c : Account) (is : Json → Type 0) (old mid : JsonLines) (e : LineError) → SendsLine is a b old mid →
+    {a b : Account} (c : Account) (is : Json → Type 0) (old mid : JsonLines) (e : LineError) →
+    SendsLine is a b old mid →
     HeldFails b c mid e → LineFails a c old e
 held_line_unsent c is old mid OutOfMemory line fails = absurd fails
 held_line_unsent {a} {b} c is old mid (Writer kind) line (n, few, took) = record {

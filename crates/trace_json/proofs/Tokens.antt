@@ -154,7 +154,8 @@ put_five (Err z) d x new p q e = tt
 
 -- tokens after one, and others after these
 pub put_after_one :
-    {E : Type 0} (r : Result (Unit {0}) E) (a : Token) (b c old : List Token) {one two : List Token} (new : List Token) →
+    {E : Type 0} (r : Result (Unit {0}) E) (a : Token) (b c old : List Token) {one two : List Token}
+    (new : List Token) →
     one ≡ old ++ a ∷ [] → two ≡ one ++ b → OnOk r (new ≡ two ++ c) → OnOk r (new ≡ old ++ a ∷ (b ++ c))
 put_after_one r a b c old new first second last = enclosed r old new (a ∷ []) b c first second last
 

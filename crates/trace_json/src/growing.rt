@@ -58,8 +58,8 @@ pub(crate) trait GrowingJson {
         name: &str,
         timestamp_ns: u64,
     ) -> Result<(), Self::Fault>
-        ensures { PutsBy grows fails (head_tokens file.entry name.now timestamp_ns) self.old self.new
-            result };
+        ensures { PutsBy grows fails (head_tokens file.entry name.now timestamp_ns) self.old
+            self.new result };
 
     /// Puts a value that holds no others, with what the pools hold in place of ids.
     fn put_flat<V: JsonValue>(

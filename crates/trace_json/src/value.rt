@@ -70,8 +70,8 @@ pub(crate) fn put_value<V: JsonValue, L: GrowingJson>(
     stacks: &StackPool,
     value: &V,
 ) -> Result<(), L::Fault>
-    ensures { PutsOneBy L.grows L.fails (IsValueJson (as_pools strings.now stacks.now) (V.value value.now))
-        out.old out.new result }
+    ensures { PutsOneBy L.grows L.fails
+        (IsValueJson (as_pools strings.now stacks.now) (V.value value.now)) out.old out.new result }
 {
     match value.held() {
         Held::Items(items) => put_list(alloc, out, strings, stacks, items),
