@@ -1,5 +1,5 @@
 -- How the reading of an input ended: the status, and what is told of it.
-use Rattle.std.specs.Prelude.{◌≡◌, ◌≢◌, ℕ, ◌==◌, List, ◌++◌, codes, Option, Some, None}
+use Rattle.std.specs.Prelude.{◌≡◌, ◌≢◌, ℕ, ◌==◌, List, ◌++◌, codes, Option, Some, None, unwrap_or}
 use Rattle.std.specs.Prelude.{if◌then◌else◌}
 use Rattle.std.specs.Fmt.{decimal}
 use Rattle.std.specs.declared.io.ErrorKind.{ErrorKind}
@@ -7,6 +7,8 @@ use Rattle.std.specs.declared.io.ErrorKind.TheVariants as errors
 use Rattle.dial9_trace_format.specs.declared.decoder.error.DecodeErrorKind.{DecodeErrorKind}
 use Rattle.dial9_trace_format.specs.declared.decoder.error.DecodeErrorKind.TheVariants as causes
 use Rattle.trace_lines.specs.Dumps.{whole_status, no_header_status, stopped_status, conflict_status, failed_status}
+use Rattle.trace_lines.specs.declared.sent_lines.LineFault.{LineFault}
+use Rattle.trace_lines.specs.declared.sent_lines.LineFault.TheVariants as faults
 use Rattle.trace_fronts.specs.declared.whole.Stop.{Stop}
 use Rattle.gotymbe_plan.specs.declared.ending.Ending.{Ending}
 use Rattle.gotymbe_plan.specs.declared.ending.Ending.TheVariants.{Whole, Stopped, OutOfMemory, Unread, Unwritten}
@@ -57,6 +59,11 @@ dump_ending status read written =
     if status == whole_status then Whole
     else if status == failed_status then failed_ending read written
     else Dumped status
+
+-- the ending where a line was not held or not sent, and the output gave this error; where it gave none it took nothing
+abbrev pub line_ending : LineFault → Option ErrorKind → Ending
+line_ending faults.OutOfMemory written = OutOfMemory
+line_ending faults.Unsent written = Unwritten (unwrap_or written errors.WriteZero)
 
 -- a text is ended: memory was not refused, and writing did not fail
 abbrev pub HasTail : Ending → Type 0

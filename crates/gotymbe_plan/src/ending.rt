@@ -7,6 +7,7 @@ ghost use Rattle.gotymbe_plan.specs.Endings.{stop_ending, IsErrorEnding, dump_en
 ghost use Rattle.gotymbe_plan.specs.Endings.{IsTold, AppendsLine, AppendsReason, AppendsStop};
 ghost use Rattle.gotymbe_plan.specs.Endings.{start_text, cause_text, rest_ending, LacksCause, IsPlaceAlone};
 ghost use Rattle.gotymbe_plan.specs.Endings.{IsConflict, AppendsUnfinished, HasTail, error_text, whole_line};
+ghost use Rattle.gotymbe_plan.specs.Endings.{line_ending};
 ghost use Rattle.gotymbe_plan.specs.OneLine.{AddsLine};
 
 use crate::names::push_name;
@@ -16,6 +17,7 @@ use std::alloc::AllocError;
 use std::io::ErrorKind;
 use trace_fronts::whole::Stop;
 use trace_lines::dump::{CONFLICT, FAILED, NO_HEADER, STOPPED, WHOLE};
+use trace_lines::sent_lines::LineFault;
 
 /// How the reading of an input ended.
 #[derive(Clone, Copy, Debug, PartialEq, Eq)]
@@ -126,6 +128,17 @@ pub fn dump_ending(status: u8, read: Option<ErrorKind>, written: Option<ErrorKin
         (Some(kind), _) => Ending::Unwritten(kind),
         (None, Some(kind)) => Ending::Unread(kind),
         (None, None) => Ending::OutOfMemory,
+    }
+}
+
+/// The ending where a line was not held or not sent, and the output gave this kind of error last. (A writer that takes
+/// nothing gives none.)
+pub fn line_ending(fault: LineFault, written: Option<ErrorKind>) -> Ending
+    ensures { result ≡ line_ending fault written }
+{
+    match fault {
+        LineFault::OutOfMemory => Ending::OutOfMemory,
+        LineFault::Unsent => Ending::Unwritten(written.unwrap_or(ErrorKind::WriteZero)),
     }
 }
 

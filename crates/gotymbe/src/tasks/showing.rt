@@ -1,7 +1,7 @@
 //! Showing what traces hold: checking, dumping, counting, and lines of JSON.
 
 use crate::clocks::zero_of;
-use crate::events::{EventLines, Form};
+use crate::events::{EventLines, Form, HeldLines};
 use crate::input::{open, unread};
 use crate::output::{Noted, STANDARD};
 use crate::pieces::{Picked, Tally, ending_by, ending_of, placed, read_named};
@@ -79,12 +79,8 @@ pub(crate) fn show_one<W: TraceWrite + Drop>(
         return dump_frames(rt, call, name, out);
     };
     let mut lines = EventLines {
-        alloc: rt.alloc(),
-        form,
+        lines: HeldLines::new(rt.alloc(), form),
         picked: Picked::of(call, zero_of(rt, call, name)),
-        line: String::new(rt.alloc()),
-        json: Vec::new(rt.alloc()),
-        held: Vec::new(rt.alloc()),
         out,
     };
     read_named(rt, call, name, &mut lines)
