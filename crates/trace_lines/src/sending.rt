@@ -16,7 +16,6 @@ use std::alloc::{AllocError, Global};
 use std::mem;
 use trace_events::event::OwnedEvent;
 use trace_values::leb128::{TraceWrite, send_all};
-use trace_values::tri;
 
 /// Lines that are held until there are enough of them to send. Of a long line a front is sent before all of it is made.
 #[derive(Drop)]
@@ -86,7 +85,7 @@ impl GrowingLines {
         ensures { HoldsText (W.told out.old) (W.told out.new) self.old self.new
             (start.now ++ line (resolved_line (event_as V.value event.now))) result }
     {
-        tri!(self.hold_line(alloc, out, start, event));
+        self.hold_line(alloc, out, start, event)?;
         if self.held.len() < ENOUGH {
             return Ok(());
         }
