@@ -22,8 +22,10 @@ import sys
 ABOUT = {
     "public": "Traces that the crate dial9-trace-format 0.5.4 wrote, by calls on which it and this library agree.",
     "malformed": "Damaged traces: one that was written whole, and then cut or changed. They have no script.",
-    "model": "Traces of an independent model of this library's rules, where the crate dial9-trace-format has others; and, named `worked-`, by hand.",
-    "types": "Traces of event types that trace_samples has. Those whose name begins with `port-` are of the model, the others of the crate.",
+    "model": "Traces of an independent model of this library's rules, where the crate dial9-trace-format has others; "
+             "and, named `worked-`, by hand.",
+    "types": "Traces of event types that trace_samples has. Those whose name begins with `port-` are of the model, the "
+             "others of the crate.",
 }
 
 

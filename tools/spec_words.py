@@ -11,7 +11,8 @@ import re
 
 LIBRARIES = [
     *("trace_tables", "trace_values", "trace_wire", "trace_writer", "dial9_trace_format"),
-    *("trace_events", "trace_lines", "trace_json", "trace_csv", "trace_fronts", "trace_stats", "trace_cuts", "trace_batch", "trace_door"),
+    *("trace_events", "trace_lines", "trace_json", "trace_csv", "trace_fronts", "trace_stats", "trace_cuts",
+      "trace_batch", "trace_door"),
     *("trace_roles", "trace_folded", "trace_chrome", "trace_page"),
 ]
 NAME = r"(?:◌\S+?◌|[^\s(){},;:.=]+)"

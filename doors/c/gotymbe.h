@@ -112,7 +112,8 @@ static inline void trace_put_name(trace_batch *b, const char *name) {
     trace_put(b, name, n);
 }
 
-/* A schema under a number of your own. Names have at most 65,535 bytes. As many calls of trace_field follow, then trace_annotations. */
+/* A schema under a number of your own. Names have at most 65,535 bytes. As many calls of trace_field follow, then
+   trace_annotations. */
 static inline void trace_schema(trace_batch *b, uint16_t number, const char *name, uint16_t fields) {
     trace_put_number(b, 1, 1);
     trace_put_number(b, number, 2);

@@ -64,7 +64,8 @@ static bool is_text(trace_slice s) {
                 return false;
             point = point << 6 | (s.bytes[i + k] & 0x3f);
         }
-        if ((more == 2 && (point < 0x800 || (point >= 0xd800 && point < 0xe000))) || (more == 3 && (point < 0x10000 || point > 0x10ffff)))
+        if ((more == 2 && (point < 0x800 || (point >= 0xd800 && point < 0xe000)))
+            || (more == 3 && (point < 0x10000 || point > 0x10ffff)))
             return false;
         i += more + 1;
     }
@@ -333,10 +334,9 @@ static bool content(const char *folder, int n, const char *ending, text *t) {
 }
 
 static bool same(text *made, const text *wanted, bool cut_end) {
-    size_t length = wanted->length;
     const char *at = cut_end ? strstr(wanted->bytes, "end conflict") : NULL;
-    bool is = at ? made->length == (size_t)(at - wanted->bytes) + 13 && !memcmp(made->bytes, wanted->bytes, made->length - 13)
-                 : made->length == length && !memcmp(made->bytes, wanted->bytes, length);
+    size_t length = at ? (size_t)(at - wanted->bytes) : wanted->length;
+    bool is = made->length == length + (at ? 13 : 0) && !memcmp(made->bytes, wanted->bytes, length);
     free(made->bytes);
     *made = (text){0};
     return is;

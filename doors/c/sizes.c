@@ -29,14 +29,16 @@ static trace_batch begun(uint8_t type) {
 /* The batch, whose trace has this length and so many events: each call, and the trace after itself. */
 static void check(trace_batch batch, size_t length, uint64_t events, const char *what, size_t size) {
     trace_report report;
-    expect(trace_record(batch.bytes, batch.length, trace, length, &report) == TRACE_DONE && report.length == length, what, size);
+    expect(trace_record(batch.bytes, batch.length, trace, length, &report) == TRACE_DONE && report.length == length,
+           what, size);
     if (length > 0)
         expect(trace_record(batch.bytes, batch.length, again, length - 1, &report) == TRACE_SHORT_ROOM, what, size);
     memcpy(trace + length, trace, length);
     for (size_t times = 1; times <= 2; times++) {
         expect(trace_check(trace, times * length, &report) == TRACE_DONE && report.length == times * length
                    && report.events == times * events, what, size);
-        expect(trace_dump(trace, times * length, times == 1, out, ROOM, &report) == TRACE_DONE && report.detail == 0, what, size);
+        expect(trace_dump(trace, times * length, times == 1, out, ROOM, &report) == TRACE_DONE && report.detail == 0,
+               what, size);
     }
     expect(trace_read(room, 0, trace, 2 * length, events + 1, out, ROOM, &report) == TRACE_DONE
                && report.events == events && report.read == length, what, size);
@@ -45,7 +47,8 @@ static void check(trace_batch batch, size_t length, uint64_t events, const char 
                && !memcmp(again, trace, length), what, size);
     /* what is known, and nothing after it */
     expect(trace_check(out + read, state, &report) == TRACE_DONE && report.events == 0, what, size);
-    expect(trace_read(out + read, state, trace, 0, 1, again, ROOM, &report) == TRACE_DONE && report.events == 0, what, size);
+    expect(trace_read(out + read, state, trace, 0, 1, again, ROOM, &report) == TRACE_DONE && report.events == 0, what,
+           size);
 }
 
 static void texts(uint32_t size) {

@@ -1,4 +1,5 @@
-/* A trace by the C door: recorded, checked, dumped, refused, cut. The lines are worked out by hand from docs/FORMAT.md. */
+/* A trace by the C door: recorded, checked, dumped, refused, cut. The lines are worked out by hand from
+   docs/FORMAT.md. */
 #include "gotymbe.h"
 #include <stdio.h>
 #include <stdlib.h>
@@ -14,7 +15,8 @@ static void expect(bool holds, const char *what) {
 static const char *const LINES =
     "trace version 1\n"
     "event \"Poll\" timestamp_ns=1000 \"worker\"=Varint:3 \"cost\"=I64:-5 \"site\"=String:\"GET /\" \"at\"=None\n"
-    "event \"Poll\" timestamp_ns=900 \"worker\"=Varint:300 \"cost\"=I64:0 \"site\"=String:\"GET /\" \"at\"=StackFrames:[0x10,0xff]\n"
+    "event \"Poll\" timestamp_ns=900 \"worker\"=Varint:300 \"cost\"=I64:0 \"site\"=String:\"GET /\" "
+    "\"at\"=StackFrames:[0x10,0xff]\n"
     "end whole\n";
 
 static void poll(trace_batch *b) {
@@ -88,8 +90,8 @@ int main(void) {
     trace_number(&batch, 1);
     trace_integer(&batch, 1);
     trace_pooled_text(&batch, 0);
-    expect(trace_record(after, batch.length - 13, trace, sizeof trace, &report) == TRACE_VALUE_COUNT && report.place == 5,
-           "three values of four");
+    expect(trace_record(after, batch.length - 13, trace, sizeof trace, &report) == TRACE_VALUE_COUNT
+               && report.place == 5, "three values of four");
     batch.length = 0;
     poll(&batch);
     trace_event(&batch, 7, 1, 4);
@@ -109,7 +111,8 @@ int main(void) {
     size_t at = 0, kept = 0;
     uint64_t events = 0;
     for (int turn = 0; turn < 4 && at < length; turn++) {
-        expect(trace_read(state, kept, trace + at, length - at, 1, out, 3, &report) == TRACE_SHORT_ROOM, "no room to read");
+        expect(trace_read(state, kept, trace + at, length - at, 1, out, 3, &report) == TRACE_SHORT_ROOM,
+               "no room to read");
         expect(trace_read(state, kept, trace + at, length - at, 1, out, sizeof out, &report) == TRACE_DONE, "read");
         expect(report.version == 1 && report.events == 1, "one event, of version 1");
         trace_cursor c = {out, report.length, 0};

@@ -12,7 +12,8 @@ import ctypes
 import os
 import struct
 
-I64, F64, BOOL, STRING, BYTES, POOLED_STACK, POOLED_STRING, STACK, VARINT, STRING_MAP, U8, U16, U32, LIST, MAP = range(1, 16)
+(I64, F64, BOOL, STRING, BYTES, POOLED_STACK, POOLED_STRING, STACK, VARINT, STRING_MAP, U8, U16, U32, LIST,
+ MAP) = range(1, 16)
 OPTIONAL = 0x80
 
 DONE, SHORT_ROOM, OUT_OF_MEMORY = 0, 1, 2
@@ -50,7 +51,8 @@ class _Report(ctypes.Structure):
 
 
 def _load():
-    path = os.environ.get("GOTYMBE_LIBRARY") or os.path.join(os.path.dirname(os.path.abspath(__file__)), "libgotymbe.so")
+    path = (os.environ.get("GOTYMBE_LIBRARY")
+            or os.path.join(os.path.dirname(os.path.abspath(__file__)), "libgotymbe.so"))
     library = ctypes.CDLL(path)
     size, report = ctypes.c_size_t, ctypes.POINTER(_Report)
     library.trace_record.argtypes = [ctypes.c_char_p, size, ctypes.c_char_p, size, report]
@@ -175,7 +177,8 @@ class Batch:
 
 
 def spelled(kind, value):
-    """A value after the tag of a plain type. Items of a list, and keys and values of a map, are pairs of a type and a value."""
+    """A value after the tag of a plain type. Items of a list, and keys and values of a map, are pairs of a type and a
+    value."""
     tag = bytes([kind])
     if kind == I64:
         return tag + struct.pack("<q", value)
@@ -240,8 +243,8 @@ class Event:
     and by the names of fields (`values`).
 
     Numbers are `int`, floats `float`, texts `str`, bytes `bytes`, stacks tuples of addresses, maps of texts lists of
-    pairs of `bytes`, lists lists, maps lists of pairs, and an absent value is None. Where a text or stack is in no pool,
-    `unresolved` tells the first id that is in none, as `pool#7`, and `row` and `values` are None."""
+    pairs of `bytes`, lists lists, maps lists of pairs, and an absent value is None. Where a text or stack is in no
+    pool, `unresolved` tells the first id that is in none, as `pool#7`, and `row` and `values` are None."""
 
     __slots__ = ("schema", "name", "time", "row", "values", "unresolved")
 

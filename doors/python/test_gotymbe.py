@@ -1,4 +1,5 @@
-"""The Python door: events of every type, refusals, and all recorded traces (docs/RECORDINGS.md), read and written again.
+"""The Python door: events of every type, refusals, and all recorded traces (docs/RECORDINGS.md), read and written
+again.
 
 Run it at the top of the repository by doors/test."""
 import glob
@@ -41,7 +42,8 @@ KINDS = [
 
 
 class Copied(reader.Trace):
-    """A trace whose events are put into batches, a batch for each header: the bytes of each field after the tag of its type."""
+    """A trace whose events are put into batches, a batch for each header: the bytes of each field after the tag of its
+    type."""
 
     def __init__(self, data):
         self.batches = []
@@ -242,7 +244,8 @@ class Doors(unittest.TestCase):
                 read += gotymbe._Bytes(found.batch).events()
                 place, state = place + found.length, found.state
                 self.assertLessEqual(found.events, most)
-            self.assertEqual([(it.time, tuple(it.row)) for it in read], [(2**24 * n, row) for n, row in enumerate(rows)])
+            self.assertEqual([(it.time, tuple(it.row)) for it in read],
+                             [(2**24 * n, row) for n, row in enumerate(rows)])
             self.assertEqual(read[-1].schema.annotations, notes)
             # recorded again, also where annotations are told after their schema
             again = list(gotymbe._Bytes(gotymbe.read_batch(record_batch(found.batch)).batch).events())

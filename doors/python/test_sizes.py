@@ -9,7 +9,8 @@ import unittest
 
 import gotymbe
 import test_ample
-from gotymbe import (BYTES, LIST, MAP, OPTIONAL, POOLED_STACK, POOLED_STRING, STACK, STRING, STRING_MAP, U8, VARINT, Batch,
+from gotymbe import (BYTES, LIST, MAP, OPTIONAL, POOLED_STACK, POOLED_STRING, STACK, STRING, STRING_MAP, U8, VARINT,
+                     Batch,
                      Schema, TraceError, check, dump, read_batch, record_batch)
 from test_ample import ALL, Wanted, addresses, counted, leb128, named, number, numbers, one
 
@@ -95,7 +96,8 @@ class Sizes(unittest.TestCase):
         for size in COUNTS:
             items, pairs = [(VARINT, 7)] * size, [((U8, 7), (STRING, "x"))] * size
             texts = [("k", "v")] * size
-            self.twice(LIST, items, number(size, 4) + b"\x09\x07" * size, "List:[" + ",".join(["Varint:7"] * size) + "]")
+            self.twice(LIST, items, number(size, 4) + b"\x09\x07" * size,
+                       "List:[" + ",".join(["Varint:7"] * size) + "]")
             self.twice(MAP, pairs, number(size, 4) + (b"\x09\x07\x04" + counted(b"x")) * size,
                        "Map:{" + ",".join(['Varint:7=String:"x"'] * size) + "}")
             self.twice(STRING_MAP, texts, number(size, 4) + (counted(b"k") + counted(b"v")) * size,
@@ -131,7 +133,8 @@ class Sizes(unittest.TestCase):
             found = read_batch(trace, most=count // 2)
             self.assertEqual((found.events, found.stop), (count // 2, None))
             lines = [f"event 256 {5 * n} Varint:{n}\n" for n in range(count)]
-            self.assertTrue(dump(trace) == 'trace version 1\nschema "One" "it":Varint\n' + "".join(lines) + "end whole\n")
+            self.assertTrue(dump(trace) == 'trace version 1\nschema "One" "it":Varint\n' + "".join(lines)
+                            + "end whole\n")
 
     def test_reading_by_each_count(self):
         wanted = numbered(len(EVENTS))

@@ -88,15 +88,15 @@ impl<'c, 'r, R: AllocGlobal + Files<File = File>> Tables<'c, 'r, R> {
     // Begins the table of a schema.
     fn put_last(&mut self, schema: &SchemaEntry) -> Result<usize, Ending> {
         let (alloc, place) = (self.rt.alloc(), self.tables.len());
-        let name = grown(table_name(alloc, place as u64 + 1, schema.name()))?;
-        let path = grown(path_of(alloc, self.folder, &name, "csv"))?;
+        let name = table_name(alloc, place as u64 + 1, schema.name())?;
+        let path = path_of(alloc, self.folder, &name, "csv")?;
         let begun = self.begin(path)?;
         let mut text = Writer::from_writer(Vec::new(alloc));
-        grown(put_columns(alloc, &mut self.row, schema.fields()))?;
+        put_columns(alloc, &mut self.row, schema.fields())?;
         if text.write_byte_record(&self.row).is_err() {
             return Err(Ending::OutOfMemory);
         }
-        let schema = grown(SchemaEntry::new(alloc, schema.name(), schema.fields()))?;
+        let schema = SchemaEntry::new(alloc, schema.name(), schema.fields())?;
         let table = Table {
             schema,
             name,
@@ -105,10 +105,8 @@ impl<'c, 'r, R: AllocGlobal + Files<File = File>> Tables<'c, 'r, R> {
             text,
             held: 0,
         };
-        match self.tables.push(table) {
-            Ok(()) => Ok(place),
-            Err(_) => Err(Ending::OutOfMemory),
-        }
+        self.tables.push(table)?;
+        Ok(place)
     }
 
     // Begins a file.
@@ -124,7 +122,7 @@ impl<'c, 'r, R: AllocGlobal + Files<File = File>> Tables<'c, 'r, R> {
 
     // Appends the row of an event to those of a table that are not written yet.
     fn push_row(&mut self, place: usize, event: &OwnedEvent<'_>) -> Result<(), Ending> {
-        grown(put_owned_event(self.rt.alloc(), &mut self.row, event))?;
+        put_owned_event(self.rt.alloc(), &mut self.row, event)?;
         let Some(table) = self.tables.get_mut(place) else {
             return Ok(());
         };
@@ -168,7 +166,7 @@ impl<'c, 'r, R: AllocGlobal + Files<File = File>> Tables<'c, 'r, R> {
         match appended {
             Ok(()) => Ok(()),
             Err(ending) => {
-                self.failed = Some(grown(path_of(alloc, self.folder, &table.name, "csv"))?);
+                self.failed = Some(path_of(alloc, self.folder, &table.name, "csv")?);
                 Err(ending)
             }
         }
@@ -178,7 +176,7 @@ impl<'c, 'r, R: AllocGlobal + Files<File = File>> Tables<'c, 'r, R> {
     /// their names.
     pub(crate) fn finish(&mut self) -> Result<(), Ending> {
         self.write_all_rows()?;
-        let (sql, manifest) = grown(self.texts())?;
+        let (sql, manifest) = self.texts()?;
         let sql = self.write_text("tables.sql", sql.as_bytes())?;
         let manifest = match self.write_text("tables.jsonl", manifest.as_slice()) {
             Ok(manifest) => manifest,
@@ -205,13 +203,13 @@ impl<'c, 'r, R: AllocGlobal + Files<File = File>> Tables<'c, 'r, R> {
 
     // Writes a file of the folder beside its name.
     fn write_text(&mut self, name: &str, text: &[u8]) -> Result<Place, Ending> {
-        let path = grown(format!(in self.rt.alloc(); "{}/{name}", self.folder))?;
+        let path = format!(in self.rt.alloc(); "{}/{name}", self.folder)?;
         let place = self.begin(path)?;
         match place.append(self.rt, text) {
             Ok(()) => Ok(place),
             Err(ending) => {
                 place.give_up(self.rt);
-                self.failed = Some(grown(format!(in self.rt.alloc(); "{}/{name}", self.folder))?);
+                self.failed = Some(format!(in self.rt.alloc(); "{}/{name}", self.folder)?);
                 Err(ending)
             }
         }
@@ -299,12 +297,4 @@ fn place_of(tables: &[Table], guess: usize, schema: &SchemaEntry) -> Option<usiz
 // The name of a file of a folder.
 fn path_of(alloc: Global, folder: &str, name: &str, ending: &str) -> Result<String, AllocError> {
     format!(in alloc; "{folder}/{name}.{ending}")
-}
-
-// An ending for want of memory.
-fn grown<T>(made: Result<T, AllocError>) -> Result<T, Ending> {
-    match made {
-        Ok(made) => Ok(made),
-        Err(_) => Err(Ending::OutOfMemory),
-    }
 }

@@ -13,7 +13,7 @@ ghost use Rattle.gotymbe_plan.specs.OneLine.{AddsLine};
 use crate::names::push_name;
 use crate::numbers::push_grouped;
 use dial9_trace_format::decoder::{DecodeError, DecodeErrorKind};
-use std::alloc::AllocError;
+use std::alloc::{AllocError, AllocFailed};
 use std::io::ErrorKind;
 use trace_fronts::whole::Stop;
 use trace_lines::dump::{CONFLICT, FAILED, NO_HEADER, STOPPED, WHOLE};
@@ -40,6 +40,26 @@ pub enum Ending {
     NoClock,
     /// It was dumped up to where it stops, with this status; the last line of the dump tells the place.
     Dumped(u8),
+}
+
+impl From<AllocError> for Ending {
+    ghost use Rattle.gotymbe_plan.specs.declared.ending.Ending.TheVariants.{OutOfMemory};
+
+    ghost from_gives = { λ _ e. e ≡ OutOfMemory };
+
+    fn from(_: AllocError) -> Ending {
+        Ending::OutOfMemory
+    }
+}
+
+impl<T: Drop> From<AllocFailed<T>> for Ending {
+    ghost use Rattle.gotymbe_plan.specs.declared.ending.Ending.TheVariants.{OutOfMemory};
+
+    ghost from_gives = { λ _ e. e ≡ OutOfMemory };
+
+    fn from(_: AllocFailed<T>) -> Ending {
+        Ending::OutOfMemory
+    }
 }
 
 impl Ending {

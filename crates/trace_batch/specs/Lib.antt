@@ -1,6 +1,6 @@
 pub mod Batches
 pub mod Recording
 pub mod Saying
-pub mod Reads
+pub mod ReadBatches
 pub mod ReadLaws
 pub mod parts

@@ -122,6 +122,6 @@ fn put_parent(out: &mut Writer, parent: usize) -> Result<(), AllocError>
     if parent == 0 {
         return Ok(());
     }
-    tri!(out.key("parent"));
+    out.key("parent")?;
     out.u64(parent as u64)
 }

@@ -19,7 +19,6 @@ use std::num::f64_from_bits_with_nan;
 use trace_events::event::OwnedEvent;
 use trace_json::leaves::special_text;
 use trace_json::value::value_text;
-use trace_values::tri;
 use trace_wire::pools::{StackPool, StringPool};
 
 /// Makes a row of an event, in place of what it held: its time in nanoseconds, and the values of its fields, ids of the
@@ -75,9 +74,9 @@ fn put_row<V: CellValue>(
         (list_map V.value values.now) (fields_of row.new)) }
 {
     row.clear();
-    tri!(push_natural(row, timestamp_ns));
+    push_natural(row, timestamp_ns)?;
     'fields: for value in values {
-        tri!(push_cell(alloc, row, strings, stacks, value));
+        push_cell(alloc, row, strings, stacks, value)?;
     }
     Ok(())
 }
@@ -133,7 +132,7 @@ fn push_float<V: CellValue>(
     if f64_from_bits_with_nan(bits).is_finite() {
         return push_json(alloc, row, strings, stacks, value);
     }
-    let text = tri!(special_text(alloc, bits));
+    let text = special_text(alloc, bits)?;
     row.push_field(text.as_bytes())
 }
 
@@ -150,6 +149,6 @@ fn push_json<V: CellValue>(
     ensures { PushesCell (IsCellOf (as_pools strings.now stacks.now) (V.value value.now)) row.old
         row.new result }
 {
-    let text = tri!(value_text(alloc, strings, stacks, value));
+    let text = value_text(alloc, strings, stacks, value)?;
     row.push_field(text.as_slice())
 }

@@ -5,7 +5,6 @@ ghost use Rattle.std.specs.List.{All};
 ghost use Rattle.trace_csv.specs.Files.{table_name, is_kept, kept_of, IsPlainName};
 
 use std::alloc::{AllocError, Global};
-use trace_values::tri;
 
 /// The most characters of a schema's name that stay in the name of its table.
 pub const MOST_KEPT: usize = 64;
@@ -17,11 +16,11 @@ pub fn table_name(alloc: Global, number: u64, name: &str) -> Result<String, Allo
     ensures exact { IfOk result (λ text. string_bytes text ≡ table_name number name.now) }
     ensures plain { IfOk result (λ text. IsPlainName (string_bytes text)) }
 {
-    let mut text = tri!(format!(in alloc; "{number}-"));
+    let mut text = format!(in alloc; "{number}-")?;
     let mut left = MOST_KEPT;
     'bytes: for byte in name.as_bytes() {
         if left > 0 && is_kept(*byte) {
-            tri!(text.push(char::from(*byte)));
+            text.push(char::from(*byte))?;
             left -= 1;
         }
     }

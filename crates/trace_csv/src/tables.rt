@@ -5,7 +5,6 @@ ghost use Rattle.trace_csv.specs.Tables.{create_text, column_text, type_name, ta
 
 use crate::columns::column_name;
 use std::alloc::{AllocError, Global};
-use trace_values::tri;
 use trace_values::types::FieldType;
 use trace_wire::schema::FieldDef;
 
@@ -20,9 +19,9 @@ pub fn push_table(
     ensures { OnOk result
         (string_bytes out.new ≡ string_bytes out.old ++ create_text name.now fields.now) }
 {
-    tri!(push_head(out, name));
+    push_head(out, name)?;
     'fields: for place in 0..fields.len() {
-        tri!(push_column(alloc, out, fields, place));
+        push_column(alloc, out, fields, place)?;
     }
     push_end(out)
 }
@@ -52,7 +51,7 @@ fn push_column(
     ensures { OnOk result
         (string_bytes out.new ≡ string_bytes out.old ++ column_text fields.now place) }
 {
-    let name = tri!(column_name(alloc, fields, place));
+    let name = column_name(alloc, fields, place)?;
     let type_name = type_name(fields[place].field_type());
     write!(out, ",\n  \"{name}\" {type_name}")
 }

@@ -7,7 +7,7 @@ use Rattle.trace_fronts.specs.declared.whole.Readers.TheVariants.{Both}
 use Rattle.trace_fronts.specs.declared.whole.Stop.{Stop}
 use Rattle.trace_fronts.specs.declared.whole.Front.{Front}
 use Rattle.trace_batch.specs.Recording.{IsTraceOfBatch, RefusesBatch}
-use Rattle.trace_batch.specs.Reads.{ReadsBatch, RefusesToRead}
+use Rattle.trace_batch.specs.ReadBatches.{ReadsBatch, RefusesToRead}
 use Rattle.trace_batch.specs.declared.batch_error.BatchError.{BatchError}
 use Rattle.trace_batch.specs.declared.read.ReadBatch.{ReadBatch}
 use Rattle.trace_batch.specs.declared.read_error.ReadError.{ReadError}

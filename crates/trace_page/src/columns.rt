@@ -19,7 +19,6 @@ use crate::numbers::{put_index, put_time};
 use indexmap::IndexSet;
 use json::Writer;
 use std::alloc::{AllocError, Global};
-use trace_values::tri;
 
 /// Writes a list of indexes.
 pub(crate) fn put_indexes(out: &mut Writer, indexes: &[usize]) -> Result<(), AllocError>
@@ -188,7 +187,7 @@ fn put_frame(
     ensures grown { OnOk result (IsLonger (texts_in strings.old) (texts_in strings.new)) }
     ensures before { out.new.before ≡ out.old.before }
 {
-    let text = tri!(format!(in alloc; "0x{address:x}"));
-    let index = tri!(index_of_text(alloc, strings, text.as_str()));
+    let text = format!(in alloc; "0x{address:x}")?;
+    let index = index_of_text(alloc, strings, text.as_str())?;
     put_index(out, index)
 }

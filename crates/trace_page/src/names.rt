@@ -6,7 +6,6 @@ ghost use Rattle.trace_page.specs.parts.Writing.{IsLonger, StandsAt};
 
 use indexmap::IndexSet;
 use std::alloc::{AllocError, Global};
-use trace_values::tri;
 
 /// Texts and stacks, each once, in the order in which they were named first.
 #[derive(Drop)]
@@ -40,7 +39,7 @@ pub(crate) fn index_of_text(
     match strings.get_index_of(text) {
         Some(index) => Ok(index),
         None => {
-            let copy = tri!(String::from_str(alloc, text));
+            let copy = String::from_str(alloc, text)?;
             put_last_text(strings, copy)
         }
     }
@@ -70,7 +69,7 @@ pub(crate) fn index_of_stack(
         Some(index) => Ok(index),
         None => {
             let mut copy = Vec::new(alloc);
-            tri!(copy.extend_from_slice(stack));
+            copy.extend_from_slice(stack)?;
             put_last_stack(stacks, copy)
         }
     }

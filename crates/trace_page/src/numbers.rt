@@ -10,7 +10,6 @@ ghost use Rattle.trace_json.specs.parts.Put.{Puts};
 use json::Writer;
 use std::alloc::{AllocError, Global};
 use std::num::f64_from_bits_with_nan;
-use trace_values::tri;
 
 /// The greatest whole number up to which a double has each.
 const EXACT: u64 = 9_007_199_254_740_991;
@@ -81,7 +80,7 @@ fn put_negative(alloc: Global, out: &mut Writer, number: u64) -> Result<(), Allo
     ensures tokens { Puts (negative_json number) out.old out.new result }
     ensures before { out.new.before ≡ out.old.before }
 {
-    let text = tri!(format!(in alloc; "-{number}"));
+    let text = format!(in alloc; "-{number}")?;
     if is_exact(number) {
         out.number(text.as_str())
     } else {

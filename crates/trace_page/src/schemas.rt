@@ -61,7 +61,7 @@ fn put_bytes_member(out: &mut Writer, bytes: u64) -> Result<(), AllocError>
     ensures tokens { PutsMember (codes "bytes") (natural_json bytes) out.old out.new result }
     ensures before { out.new.before ≡ out.old.before }
 {
-    tri!(out.key("bytes"));
+    out.key("bytes")?;
     put_natural(out, bytes)
 }
 
@@ -70,7 +70,7 @@ fn put_roles_member(out: &mut Writer, entry: &SchemaEntry) -> Result<(), AllocEr
     ensures tokens { PutsMember (codes "roles") (roles_json entry.now) out.old out.new result }
     ensures before { out.new.before ≡ out.old.before }
 {
-    tri!(out.key("roles"));
+    out.key("roles")?;
     put_roles(out, entry)
 }
 
@@ -94,7 +94,7 @@ fn put_index_member(out: &mut Writer, name: &str, index: Option<usize>) -> Resul
     ensures tokens { PutsMember name.now (index_or_null index) out.old out.new result }
     ensures before { out.new.before ≡ out.old.before }
 {
-    tri!(out.key(name));
+    out.key(name)?;
     put_index_or_null(out, index)
 }
 
@@ -118,7 +118,7 @@ pub(crate) fn put_text_member(
         out.old out.new result }
     ensures before { out.new.before ≡ out.old.before }
 {
-    tri!(out.key(name));
+    out.key(name)?;
     put_text_or_null(out, text)
 }
 
@@ -192,7 +192,7 @@ fn put_type_member(out: &mut Writer, field_type: FieldType) -> Result<(), AllocE
         result }
     ensures before { out.new.before ≡ out.old.before }
 {
-    tri!(out.key("type"));
+    out.key("type")?;
     out.u64(u64::from(field_type.tag()))
 }
 

@@ -148,8 +148,8 @@ fn put_items<V: PageValue>(
     ensures before { out.new.before ≡ out.old.before }
 {
     'items: for item in items {
-        tri!(out.u64(item.kind_tag()));
-        tri!(put_value(alloc, out, names, strings, stacks, item));
+        out.u64(item.kind_tag())?;
+        put_value(alloc, out, names, strings, stacks, item)?;
     }
     Ok(())
 }

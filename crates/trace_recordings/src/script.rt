@@ -74,13 +74,19 @@ fn push_call(alloc: Global, calls: &mut Vec<ScriptCall>, line: &[u8]) -> Result<
     ensures unsaid { IfErr result (λ error. error.error ≢ Memory → SaysNoWord line.now) }
 {
     let before = calls.len();
-    match call_of(alloc, line) {
-        Ok(call) => match calls.push(call) {
-            Ok(()) => Ok(()),
-            Err(_) => Err(error_on(before, LineError::Memory)),
-        },
+    match push_said(alloc, calls, line) {
+        Ok(()) => Ok(()),
         Err(error) => Err(error_on(before, named(line, error))),
     }
+}
+
+// The same, with an error by its own name.
+fn push_said(alloc: Global, calls: &mut Vec<ScriptCall>, line: &[u8]) -> Result<(), LineError>
+    ensures gains { OnOk result (GainsCall calls.old.items calls.new.items line.now) }
+    ensures unsaid { IfErr result (λ error. error ≢ Memory → SaysNoWord line.now) }
+{
+    let call = call_of(alloc, line)?;
+    Ok(calls.push(call)?)
 }
 
 // An error in the line after this many.

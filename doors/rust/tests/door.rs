@@ -89,7 +89,10 @@ fn batches_join() -> Result<(), Error> {
     let torn = &trace[..trace.len() - 1];
     let mut read = events(torn)?;
     assert_eq!(read.by_ref().count(), 999);
-    assert!(matches!(read.stop(), Some(Error::Trace { cause: Cause::TruncatedValue, place, .. }) if *place < torn.len()));
+    let Some(Error::Trace { cause: Cause::TruncatedValue, place, .. }) = read.stop() else {
+        panic!("a torn value is told as {:?}", read.stop());
+    };
+    assert!(*place < torn.len());
     assert_eq!(read.version(), 1);
     Ok(())
 }
@@ -157,8 +160,8 @@ fn shown(value: &ReadValue) -> String {
             format!("StackFrames:[{}]", joined(addresses.iter().map(|address| format!("0x{address:x}"))))
         }
         ReadValue::Texts(pairs) => {
-            let pair = |(key, text): &(String, String)| format!("{}={}", quoted(key.as_bytes()), quoted(text.as_bytes()));
-            format!("StringMap:{{{}}}", joined(pairs.iter().map(pair)))
+            let text = |it: &String| quoted(it.as_bytes());
+            format!("StringMap:{{{}}}", joined(pairs.iter().map(|it| format!("{}={}", text(&it.0), text(&it.1)))))
         }
         ReadValue::List(items) => format!("List:[{}]", joined(items.iter().map(shown))),
         ReadValue::Map(pairs) => {

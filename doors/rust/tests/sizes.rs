@@ -3,7 +3,8 @@
 
 use gotymbe_door::{check, dump, events, read_batch, record_batch, Error, FieldType, ReadValue, Recorder, Schema, Value};
 
-// A header, a schema `One` with a field `it`, an event after that before its value, and a pool of one entry before that.
+// A header, a schema `One` with a field `it`, an event after that before its value, and a pool of one entry before
+// that.
 const HEADER: usize = 5;
 const SCHEMA: usize = 16;
 const EVENT: usize = 6;

@@ -50,10 +50,8 @@ impl FrameSink for Gathered<'_> {
         let Some(event) = self.picked.pick(frame, decoder)? else {
             return Ok(());
         };
-        match self.data.add(&event, bytes) {
-            Ok(()) => self.picked.go_on(),
-            Err(_) => Err(Ending::OutOfMemory),
-        }
+        self.data.add(&event, bytes)?;
+        self.picked.go_on()
     }
 
     fn settle(&mut self) -> Result<(), Ending> {

@@ -33,7 +33,7 @@ pub(crate) fn put_text(
     ensures grown { OnOk result (Grows (tables_of names.old) (tables_of names.new)) }
     ensures before { out.new.before ≡ out.old.before }
 {
-    let index = tri!(index_of_text(alloc, &mut names.strings, text));
+    let index = index_of_text(alloc, &mut names.strings, text)?;
     put_index(out, index)
 }
 
@@ -49,7 +49,7 @@ pub(crate) fn put_stack(
     ensures grown { OnOk result (Grows (tables_of names.old) (tables_of names.new)) }
     ensures before { out.new.before ≡ out.old.before }
 {
-    let index = tri!(index_of_stack(alloc, &mut names.stacks, stack));
+    let index = index_of_stack(alloc, &mut names.stacks, stack)?;
     put_index(out, index)
 }
 
@@ -65,7 +65,7 @@ pub(crate) fn put_bytes(
     ensures grown { OnOk result (Grows (tables_of names.old) (tables_of names.new)) }
     ensures before { out.new.before ≡ out.old.before }
 {
-    let digits = tri!(hex::encode(alloc, bytes));
+    let digits = hex::encode(alloc, bytes)?;
     put_text(alloc, out, names, digits.as_str())
 }
 
@@ -169,8 +169,8 @@ fn put_text_pairs(
     ensures before { out.new.before ≡ out.old.before }
 {
     'pairs: for pair in pairs {
-        tri!(put_text_bytes(alloc, out, names, &pair.0));
-        tri!(put_text_bytes(alloc, out, names, &pair.1));
+        put_text_bytes(alloc, out, names, &pair.0)?;
+        put_text_bytes(alloc, out, names, &pair.1)?;
     }
     Ok(())
 }

@@ -277,53 +277,31 @@ fn wide_of(time: u64, numbers: &[u64]) -> Option<Wide>
     ensures time { IfSome result (λ e. e.time ≡ time) }
     ensures numbers { IfSome result (λ e. wide_numbers e ≡ numbers.now) }
 {
-    let [
-        v0,
-        v1,
-        v2,
-        v3,
-        v4,
-        v5,
-        v6,
-        v7,
-        v8,
-        v9,
-        v10,
-        v11,
-        v12,
-        v13,
-        v14,
-        v15,
-        v16,
-        v17,
-        v18,
-        v19,
-    ] = numbers
-    else {
+    if numbers.len() != 20 {
         return None;
-    };
+    }
     Some(Wide {
         time,
-        v0: *v0,
-        v1: *v1,
-        v2: *v2,
-        v3: *v3,
-        v4: *v4,
-        v5: *v5,
-        v6: *v6,
-        v7: *v7,
-        v8: *v8,
-        v9: *v9,
-        v10: *v10,
-        v11: *v11,
-        v12: *v12,
-        v13: *v13,
-        v14: *v14,
-        v15: *v15,
-        v16: *v16,
-        v17: *v17,
-        v18: *v18,
-        v19: *v19,
+        v0: numbers[0],
+        v1: numbers[1],
+        v2: numbers[2],
+        v3: numbers[3],
+        v4: numbers[4],
+        v5: numbers[5],
+        v6: numbers[6],
+        v7: numbers[7],
+        v8: numbers[8],
+        v9: numbers[9],
+        v10: numbers[10],
+        v11: numbers[11],
+        v12: numbers[12],
+        v13: numbers[13],
+        v14: numbers[14],
+        v15: numbers[15],
+        v16: numbers[16],
+        v17: numbers[17],
+        v18: numbers[18],
+        v19: numbers[19],
     })
 }
 

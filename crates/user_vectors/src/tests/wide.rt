@@ -176,59 +176,42 @@ impl TraceEvent for Wide {
     }
 }
 
+// An event at 10 whose fields go by twelves: four numbers, a number with a sign, a float, a truth value, a text, a text
+// and a stack of the pools, and two that may be absent.
+macro_rules! by_twelves {
+    ($alloc:expr, $text:expr, $stack:expr, $((
+        $long:ident $word:ident $short:ident $byte:ident $signed:ident $float:ident
+        $truth:ident $own:ident $named:ident $frames:ident $some:ident $none:ident
+    ))*) => {
+        Wide {
+            time: 10,
+            $(
+                $long: 7,
+                $word: 8,
+                $short: 9,
+                $byte: 10,
+                $signed: -1,
+                $float: F64Bits(0),
+                $truth: true,
+                $own: String::new($alloc),
+                $named: $text,
+                $frames: $stack,
+                $some: Some(3),
+                $none: None,
+            )*
+        }
+    };
+}
+
 /// One event at 10, with this text and this stack.
 fn event_of_many(alloc: Global, text: InternedString, stack: InternedStackFrames) -> Wide {
-    Wide {
-        time: 10,
-        f0: 7,
-        f1: 8,
-        f2: 9,
-        f3: 10,
-        f4: -1,
-        f5: F64Bits(0),
-        f6: true,
-        f7: String::new(alloc),
-        f8: text,
-        f9: stack,
-        f10: Some(3),
-        f11: None,
-        f12: 7,
-        f13: 8,
-        f14: 9,
-        f15: 10,
-        f16: -1,
-        f17: F64Bits(0),
-        f18: true,
-        f19: String::new(alloc),
-        f20: text,
-        f21: stack,
-        f22: Some(3),
-        f23: None,
-        f24: 7,
-        f25: 8,
-        f26: 9,
-        f27: 10,
-        f28: -1,
-        f29: F64Bits(0),
-        f30: true,
-        f31: String::new(alloc),
-        f32: text,
-        f33: stack,
-        f34: Some(3),
-        f35: None,
-        f36: 7,
-        f37: 8,
-        f38: 9,
-        f39: 10,
-        f40: -1,
-        f41: F64Bits(0),
-        f42: true,
-        f43: String::new(alloc),
-        f44: text,
-        f45: stack,
-        f46: Some(3),
-        f47: None,
-    }
+    by_twelves!(
+        alloc, text, stack,
+        (f0 f1 f2 f3 f4 f5 f6 f7 f8 f9 f10 f11)
+        (f12 f13 f14 f15 f16 f17 f18 f19 f20 f21 f22 f23)
+        (f24 f25 f26 f27 f28 f29 f30 f31 f32 f33 f34 f35)
+        (f36 f37 f38 f39 f40 f41 f42 f43 f44 f45 f46 f47)
+    )
 }
 
 /// A trace of the text `y`, the text `x`, the stack of 7, and that event with the second text.

@@ -6,7 +6,7 @@ use Rattle.trace_csv.proofs.cells.put_row.Goals as goal
 pub fields-init : goal.fields-init
 fields-init g c =
     first_cell (as_pools c.args.strings.now c.args.stacks.now) (decimal c.args.timestamp_ns) c.clear.ensures.fields
-    c.in-Ok-tri.ensures
+    c.in_ok-push_natural.ensures
 
 pub push_cell-requires : goal.push_cell-requires
 push_cell-requires g c = c.fields.invariant.whole
@@ -15,4 +15,4 @@ pub fields-preserved : goal.fields-preserved
 fields-preserved g c =
     next_cell (as_pools c.args.strings.now c.args.stacks.now) (decimal c.args.timestamp_ns) g.V.TraceValue.value
     c.args.values.now
-    c.fields.value-index c.fields-test.true c.value-item.is c.fields.invariant c.in-Ok-tri-2.ensures
+    c.fields.value-index c.fields-test.true c.value-item.is c.fields.invariant c.in_ok-push_cell.ensures

@@ -4,7 +4,7 @@ use Rattle.std.specs.Fmt.{decimal}
 use Rattle.std.specs.List.{All}
 use Rattle.trace_csv.specs.Files.{dash, is_kept, table_name}
 use Rattle.trace_csv.proofs.FileLemmas.{kept_on, other_left, full_left, all_kept, table_name_kept}
-use Rattle.trace_csv.proofs.files.table_name.Goals.{then-left-gt0+then-is_kept+in-Ok-tri-2, else-left-gt0}
+use Rattle.trace_csv.proofs.files.table_name.Goals.{then-left-gt0+then-is_kept+in_ok-push, else-left-gt0}
 use Rattle.trace_csv.proofs.files.table_name.Goals.{else-left-gt0-via-then-left-gt0+else-is_kept}
 use Rattle.trace_csv.proofs.files.table_name.Goals.{else-left-gt0-via-else-left-gt0}
 use Rattle.trace_csv.proofs.files.table_name.Goals as goal
@@ -16,7 +16,7 @@ bytes-preserved c =
     let lt : i < length name =
     subst (λ (l : List ℕ). i < length l) c.as_bytes-byte-items.ensures.value c.bytes-test.true in
     elim c.if-left-gt0.branch [
-      | then-left-gt0+then-is_kept+in-Ok-tri-2 w ↦
+      | then-left-gt0+then-is_kept+in_ok-push w ↦
           kept_on c.if-left-gt0.left (string_bytes c.if-left-gt0.text) c.bytes.invariant lt (search rules)
           (search rules) (search rules) w.left-is
       | else-left-gt0 w ↦ elim w.else-left-gt0.branch [
@@ -27,8 +27,8 @@ bytes-preserved c =
       ]
     ]
 
-pub returns-2-clause-plain : goal.returns-2-clause-plain
-returns-2-clause-plain c =
+pub returns-clause-plain : goal.returns-clause-plain
+returns-clause-plain c =
     let name = c.args.name.now in
     let le : length name ≤ c.bytes.byte-index =
     subst (λ (l : List ℕ). length l ≤ c.bytes.byte-index) c.as_bytes-byte-items.ensures.value c.bytes-test.false in

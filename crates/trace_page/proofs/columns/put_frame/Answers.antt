@@ -7,14 +7,14 @@ use Rattle.trace_page.specs.parts.Writing.{StandsAt}
 use Rattle.trace_page.proofs.Chains.{so_on_ok}
 use Rattle.trace_page.proofs.columns.put_frame.Goals as goal
 
-pub returns-3-clause-tokens : goal.returns-3-clause-tokens
-returns-3-clause-tokens c =
+pub returns-clause-tokens : goal.returns-clause-tokens
+returns-clause-tokens c =
     let texts = texts_in c.index_of_text.new.strings in
-    let i = c.in-Ok-tri-index.field-0 in
+    let i = c.in_ok-index.index in
     let text : c.as_str.result.now ≡ address_text c.args.address = search rules in
     one_stands c.put_index.result (IsIndexOf texts (address_text c.args.address)) (index_json i) _ _
-    (i, subst (λ (s : List ℕ). StandsAt texts s i) text c.in-Ok-tri-index.ensures.index, refl)
+    (i, subst (λ (s : List ℕ). StandsAt texts s i) text c.in_ok-index.ensures.index, refl)
     c.put_index.ensures.tokens
 
-pub returns-3-clause-grown : goal.returns-3-clause-grown
-returns-3-clause-grown c = so_on_ok c.put_index.result c.in-Ok-tri-index.ensures.grown
+pub returns-clause-grown : goal.returns-clause-grown
+returns-clause-grown c = so_on_ok c.put_index.result c.in_ok-index.ensures.grown

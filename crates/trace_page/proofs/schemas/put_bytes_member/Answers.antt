@@ -2,6 +2,6 @@ use Rattle.std.proofs.Common.{[], ◌∷◌, refl}
 use Rattle.trace_page.proofs.Chains.{chained}
 use Rattle.trace_page.proofs.schemas.put_bytes_member.Goals as goal
 
-pub returns-2-clause-tokens : goal.returns-2-clause-tokens
-returns-2-clause-tokens c =
-    chained c.put_natural.result _ (_ ∷ []) _ _ _ (_, c.in-Ok-tri.ensures.ok, refl) c.put_natural.ensures.tokens
+pub returns-clause-tokens : goal.returns-clause-tokens
+returns-clause-tokens c =
+    chained c.put_natural.result _ (_ ∷ []) _ _ _ (_, c.in_ok-key.ensures.ok, refl) c.put_natural.ensures.tokens

@@ -2,7 +2,7 @@ use Rattle.std.proofs.Common.{[], ◌∷◌, refl}
 use Rattle.trace_page.proofs.Chains.{chained}
 use Rattle.trace_page.proofs.schemas.put_index_member.Goals as goal
 
-pub returns-2-clause-tokens : goal.returns-2-clause-tokens
-returns-2-clause-tokens c =
-    chained c.put_index_or_null.result _ (_ ∷ []) _ _ _ (_, c.in-Ok-tri.ensures.ok, refl)
+pub returns-clause-tokens : goal.returns-clause-tokens
+returns-clause-tokens c =
+    chained c.put_index_or_null.result _ (_ ∷ []) _ _ _ (_, c.in_ok-key.ensures.ok, refl)
     c.put_index_or_null.ensures.tokens

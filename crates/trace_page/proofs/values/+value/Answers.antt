@@ -48,12 +48,12 @@ put_items-items-preserved g t c =
     let p = as_pools c.args.strings.now c.args.stacks.now in
     let value = g.V.TraceValue.value in
     record {
-      tokens = item_stands c.in-Ok-tri-2.ensures.grown p value c.args.items.now c.items.item-index _
+      tokens = item_stands c.in_ok-put_value.ensures.grown p value c.args.items.now c.items.item-index _
           (record { inside = c.items-test.true; is = c.item-item.is }) c.items.invariant.tokens
-          (tagged _ p (value c.item-item.result) _ _ c.kind_tag.result c.kind_tag.ensures c.in-Ok-tri.ensures.ok
-          c.in-Ok-tri-2.ensures.tokens);
-      grown = grows_trans _ _ _ c.items.invariant.grown c.in-Ok-tri-2.ensures.grown;
-      before = c.in-Ok-tri-2.ensures.before ∙ c.in-Ok-tri.ensures.room.0 ∙ c.items.invariant.before;
+          (tagged _ p (value c.item-item.result) _ _ c.kind_tag.result c.kind_tag.ensures c.in_ok-u64.ensures.ok
+          c.in_ok-put_value.ensures.tokens);
+      grown = grows_trans _ _ _ c.items.invariant.grown c.in_ok-put_value.ensures.grown;
+      before = c.in_ok-put_value.ensures.before ∙ c.in_ok-u64.ensures.room.0 ∙ c.items.invariant.before;
     }
 
 pub put_items-returns-clause-tokens : goal.put_items-returns-clause-tokens

@@ -6,12 +6,12 @@ use Rattle.trace_page.proofs.Chains.{so_on_ok}
 use Rattle.trace_page.proofs.Growing.{longer_refl}
 use Rattle.trace_page.proofs.values.leaves.put_stack.Goals as goal
 
-pub returns-2-clause-tokens : goal.returns-2-clause-tokens
-returns-2-clause-tokens c =
+pub returns-clause-tokens : goal.returns-clause-tokens
+returns-clause-tokens c =
     one_stands c.put_index.result (IsIndexOf (lists_in c.index_of_stack.new.stacks) c.args.stack.now)
-    (index_json c.in-Ok-tri.field-0) _ _ (c.in-Ok-tri.field-0, c.in-Ok-tri.ensures.index, refl)
+    (index_json c.in_ok-index.index) _ _ (c.in_ok-index.index, c.in_ok-index.ensures.index, refl)
     c.put_index.ensures.tokens
 
-pub returns-2-clause-grown : goal.returns-2-clause-grown
-returns-2-clause-grown c =
-    so_on_ok c.put_index.result (record { strings = longer_refl _; stacks = c.in-Ok-tri.ensures.grown })
+pub returns-clause-grown : goal.returns-clause-grown
+returns-clause-grown c =
+    so_on_ok c.put_index.result (record { strings = longer_refl _; stacks = c.in_ok-index.ensures.grown })

@@ -5,8 +5,8 @@ use Rattle.trace_page.proofs.values.leaves.put_text_pairs.Goals as goal
 
 pub pairs-preserved : goal.pairs-preserved
 pairs-preserved c =
-    let first = c.in-Ok-tri.ensures in
-    let second = c.in-Ok-tri-2.ensures in
+    let first = c.in_ok-put_text_bytes.ensures in
+    let second = c.in_ok-put_text_bytes-2.ensures in
     record {
       tokens = text_pair_stands (texts_grow_twice first.grown second.grown)
           (λ (p : Vec ℕ Global × Vec ℕ Global). (p.0.items, p.1.items)) c.args.pairs.now c.pairs.pair-index _

@@ -1,12 +1,13 @@
-use Rattle.std.proofs.Common.{refl, length, ◌≤◌, arith}
+use Rattle.std.proofs.Common.{refl, length, ◌≡◌, ◌≤◌, arith, rules}
 use Rattle.trace_recordings.proofs.EventValues.{number_more, no_number_more}
 use Rattle.trace_recordings.proofs.typed.events.wide_of.Goals as goal
 
 pub returns-clause-numbers : goal.returns-clause-numbers
 returns-clause-numbers c =
     let xs = c.args.numbers.now in
-    let enough = c.in-len20.len_at_least in
-    let all : length xs ≤ 20 = omega (arith, c.in-len20.len_below) in
+    let count : length xs ≡ 20 = search rules in
+    let enough : 20 ≤ length xs = omega (arith, count) in
+    let all : length xs ≤ 20 = omega (arith, count) in
     number_more xs 20 enough 0 refl _ (
     number_more xs 20 enough 1 refl _ (
     number_more xs 20 enough 2 refl _ (
