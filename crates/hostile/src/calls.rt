@@ -1,8 +1,10 @@
 //! Calls of decoders that promise nothing, so that proofs of what makes many of them stay small.
 
 use dial9_trace_format::decoder::{
-    DecodeError, DecodedFrame, DecodedFrameRef, Decoder, EventSink, FeedDecoder, TryForEachError,
+    DecodeError, DecodedFrame, DecodedFrameRef, Decoder, EventHead, EventSink, EventVisitor,
+    FeedDecoder, TryForEachError,
 };
+use dial9_trace_format::types::{FieldValue, FieldValueRef};
 use std::alloc::{AllocError, Global};
 
 /// `Decoder::new`, of bytes that begin with a header.
@@ -25,6 +27,22 @@ pub fn next_borrowed<'a>(
     decoder: &mut Decoder<'a>,
 ) -> Result<Option<DecodedFrameRef<'a>>, DecodeError> {
     decoder.next_frame_ref()
+}
+
+/// `Decoder::next_event_into`.
+pub fn next_into(
+    decoder: &mut Decoder<'_>,
+    values: &mut Vec<FieldValue>,
+) -> Result<Option<EventHead>, DecodeError> {
+    decoder.next_event_into(values)
+}
+
+/// `Decoder::next_event_ref_into`.
+pub fn next_ref_into<'a>(
+    decoder: &mut Decoder<'a>,
+    values: &mut Vec<FieldValueRef<'a>>,
+) -> Result<Option<EventHead>, DecodeError> {
+    decoder.next_event_ref_into(values)
 }
 
 /// `Decoder::decode_all`.
@@ -57,6 +75,14 @@ pub fn show<'a, E, S: EventSink<'a, E>>(
     sink: &mut S,
 ) -> Result<(), TryForEachError<E>> {
     decoder.try_for_each_event(sink)
+}
+
+/// `Decoder::for_each_event`.
+pub fn visit<'a, V: EventVisitor<'a>>(
+    decoder: &mut Decoder<'a>,
+    visitor: &mut V,
+) -> Result<(), DecodeError> {
+    decoder.for_each_event(visitor)
 }
 
 /// `FeedDecoder::feed`.

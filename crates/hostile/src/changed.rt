@@ -1,0 +1,10 @@
+//! Traces that are changed, and what all readers give of them.
+
+pub mod beside;
+pub mod fed;
+pub mod frames;
+pub mod program;
+pub mod reading;
+pub mod resolving;
+pub mod tally;
+pub mod values;

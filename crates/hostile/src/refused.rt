@@ -1,0 +1,26 @@
+//! Calls of which each growth is refused.
+
+pub mod asks;
+pub mod before;
+pub mod copies;
+pub mod dumping;
+pub mod encoding;
+pub mod events;
+pub mod feeding;
+pub mod free;
+pub mod heap;
+pub mod lists;
+pub mod parts;
+pub mod plan;
+pub mod program;
+pub mod reading;
+pub mod resolving;
+pub mod resuming;
+pub mod rows;
+pub mod runs;
+pub mod samples;
+pub mod sweep;
+pub mod tallies;
+pub mod values;
+pub mod verdict;
+pub mod written;

@@ -1,0 +1,474 @@
+//! What each reader gives of a trace, up to its end.
+
+use crate::calls::{
+    all_borrowed, all_owned, decoder_of, next_borrowed, next_into, next_owned, next_ref_into, show,
+    step, step_events, visit,
+};
+use crate::changed::reading::{Borrowed, Owned, read_borrowed, read_owned};
+use crate::refused::verdict::Answer;
+use crate::same::{are_same, is_same_end};
+use dial9_trace_format::decoder::{
+    DecodeError, DecodeErrorKind, DecodedFrame, DecodedFrameRef, Decoder, EventHead, EventSink,
+    EventVisitor, RawEvent, TryForEachError,
+};
+use dial9_trace_format::types::{FieldValue, FieldValueRef};
+use std::alloc::{AllocError, Global};
+
+/// A reader of a whole trace.
+#[derive(Clone, Copy)]
+pub enum Reader {
+    /// `next_frame`.
+    Owned,
+    /// `next_frame_ref`.
+    Borrowed,
+    /// The iterator over frames.
+    Frames,
+    /// The iterator over events.
+    Events,
+    /// `decode_all`.
+    AllOwned,
+    /// `decode_all_ref`.
+    AllBorrowed,
+    /// `try_for_each_event`.
+    Sink,
+    /// `for_each_event`.
+    Visitor,
+    /// `next_event_into`.
+    Into,
+    /// `next_event_ref_into`.
+    RefInto,
+}
+
+/// All of them.
+pub const READERS: &[Reader] = &[
+    Reader::Owned,
+    Reader::Borrowed,
+    Reader::Frames,
+    Reader::Events,
+    Reader::AllOwned,
+    Reader::AllBorrowed,
+    Reader::Sink,
+    Reader::Visitor,
+    Reader::Into,
+    Reader::RefInto,
+];
+
+/// What a trace gives where no growth is refused.
+#[derive(Drop)]
+pub struct Reference<'b> {
+    pub bytes: &'b [u8],
+    pub owned: Owned,
+    pub borrowed: Borrowed<'b>,
+    /// At which indexes of the frames the events are.
+    pub events: Vec<usize>,
+}
+
+/// What the bytes give, if a header stands at their front.
+pub fn reference_of(alloc: Global, bytes: &[u8]) -> Result<Option<Reference<'_>>, AllocError> {
+    match Decoder::new(alloc, bytes) {
+        Some(decoder) => match reference_by(alloc, bytes, decoder) {
+            Ok(reference) => Ok(Some(reference)),
+            Err(error) => Err(error),
+        },
+        None => Ok(None),
+    }
+}
+
+fn reference_by<'b>(
+    alloc: Global,
+    bytes: &'b [u8],
+    decoder: Decoder<'b>,
+) -> Result<Reference<'b>, AllocError> {
+    let borrowed = read_borrowed(alloc, decoder_of(alloc, bytes)?)?;
+    let owned = read_owned(alloc, decoder)?;
+    let events = indexes_of_events(alloc, &owned.frames)?;
+    Ok(Reference {
+        bytes,
+        owned,
+        borrowed,
+        events,
+    })
+}
+
+fn indexes_of_events(alloc: Global, frames: &[DecodedFrame]) -> Result<Vec<usize>, AllocError> {
+    let mut indexes = Vec::new(alloc);
+    for (index, frame) in frames.iter().enumerate() {
+        if matches!(frame, DecodedFrame::Event { .. }) {
+            indexes.push(index)?;
+        }
+    }
+    Ok(indexes)
+}
+
+/// What a reader gave up to its end.
+#[derive(Clone, Copy)]
+pub struct Run {
+    /// How many frames, or events.
+    pub given: usize,
+    /// Whether they are those of the reference, in order, and nothing comes after an error.
+    pub same: bool,
+    /// The error by which it ended, if it did.
+    pub error: Option<DecodeError>,
+}
+
+impl Run {
+    /// Nothing was given.
+    pub fn new() -> Run {
+        Run {
+            given: 0,
+            same: true,
+            error: None,
+        }
+    }
+
+    /// One more was given, which is that of the reference or not.
+    pub fn give(&mut self, same: bool) {
+        self.given = self.given.saturating_add(1);
+        self.same &= same & self.error.is_none();
+    }
+
+    /// The run met this error, and none before.
+    pub fn fail(&mut self, error: DecodeError) {
+        self.same &= self.error.is_none();
+        self.error = Some(error);
+    }
+
+    /// The run that ended so.
+    fn ended(self, error: Option<DecodeError>) -> Run {
+        Run { error, ..self }
+    }
+
+    /// The error by which it ended, if that tells want of memory.
+    pub fn want_of_memory(&self) -> Option<DecodeError> {
+        match self.error {
+            Some(error) if error.kind == DecodeErrorKind::OutOfMemory => Some(error),
+            _ => None,
+        }
+    }
+
+    /// Whether it gave as many as another, and ended as that one.
+    pub fn is_as(&self, other: &Run) -> bool {
+        self.given == other.given && is_same_end(&self.error, &other.error)
+    }
+
+    /// The answer, beside that of a run that met no refusal.
+    pub fn answer(&self, whole: &Run) -> Answer {
+        if self.want_of_memory().is_some() {
+            Answer::Memory
+        } else if self.is_as(whole) {
+            Answer::Same
+        } else {
+            Answer::Other
+        }
+    }
+}
+
+/// Compares each event that it is shown with that of the reference, and takes no memory.
+#[derive(Drop)]
+pub struct Comparing<'r, 'b> {
+    pub reference: &'r Reference<'b>,
+    pub run: Run,
+}
+
+impl<'r, 'b> Comparing<'r, 'b> {
+    fn take(&mut self, event: &RawEvent<'b, '_>) {
+        let same = is_shown(self.reference.borrowed_event(self.run.given), event);
+        self.run.give(same);
+    }
+}
+
+/// Whether the frame is the event that a sink is shown.
+pub fn is_shown<'v, 'b>(
+    frame: Option<&'v DecodedFrameRef<'b>>,
+    event: &'v RawEvent<'b, '_>,
+) -> bool {
+    let head = EventHead {
+        type_id: event.type_id,
+        timestamp_ns: event.timestamp_ns,
+    };
+    is_event_ref(frame, head, event.fields)
+}
+
+impl<'r, 'b> EventSink<'b, ()> for Comparing<'r, 'b> {
+    ghost step = { λ _ _ _ _. Unit {0} };
+
+    fn event(&mut self, event: &RawEvent<'b, '_>) -> Result<(), ()> {
+        self.take(event);
+        Ok(())
+    }
+}
+
+impl<'r, 'b> EventVisitor<'b> for Comparing<'r, 'b> {
+    ghost step = { λ _ _ _. Unit {0} };
+
+    fn event(&mut self, event: &RawEvent<'b, '_>) {
+        self.take(event);
+    }
+}
+
+/// Whether the frame is the event of this head and these values.
+fn is_event(frame: Option<&DecodedFrame>, head: EventHead, values: &[FieldValue]) -> bool {
+    match frame {
+        Some(
+            DecodedFrame::Event {
+                type_id,
+                timestamp_ns,
+                values: wanted,
+            },
+        ) => {
+            let same = (head.type_id == *type_id) & (head.timestamp_ns == *timestamp_ns);
+            same & (values == wanted.as_slice())
+        }
+        _ => false,
+    }
+}
+
+/// The same of values that stay in the bytes.
+fn is_event_ref<'v, 'b>(
+    frame: Option<&'v DecodedFrameRef<'b>>,
+    head: EventHead,
+    values: &'v [FieldValueRef<'b>],
+) -> bool {
+    match frame {
+        Some(
+            DecodedFrameRef::Event {
+                type_id,
+                timestamp_ns,
+                values: wanted,
+            },
+        ) => {
+            let same = (head.type_id == *type_id) & (head.timestamp_ns == *timestamp_ns);
+            same & are_same(values, wanted)
+        }
+        _ => false,
+    }
+}
+
+impl<'b> Reference<'b> {
+    /// Has the reader read the trace to its end.
+    pub fn run(&self, reader: Reader, decoder: &mut Decoder<'b>) -> Run {
+        match reader {
+            Reader::AllOwned => self.run_all_owned(decoder),
+            Reader::AllBorrowed => self.run_all_borrowed(decoder),
+            Reader::Sink => self.run_sink(decoder),
+            Reader::Visitor => self.run_visitor(decoder),
+            Reader::Into => self.run_into(decoder),
+            Reader::RefInto => self.run_ref_into(decoder),
+            _ => self.run_steps(reader, decoder),
+        }
+    }
+
+    /// The event of this index.
+    fn event(&self, index: usize) -> Option<&DecodedFrame> {
+        self.owned.frames.get(*self.events.get(index)?)
+    }
+
+    /// The same whose values stay in the bytes.
+    fn borrowed_event(&self, index: usize) -> Option<&DecodedFrameRef<'b>> {
+        self.borrowed.frames.get(*self.events.get(index)?)
+    }
+
+    fn run_all_owned(&self, decoder: &mut Decoder<'b>) -> Run {
+        match all_owned(decoder) {
+            Ok(frames) => given(frames.len(), frames == self.owned.frames),
+            Err(error) => Run::new().ended(Some(error)),
+        }
+    }
+
+    fn run_all_borrowed(&self, decoder: &mut Decoder<'b>) -> Run {
+        match all_borrowed(decoder) {
+            Ok(frames) => given(frames.len(), frames == self.borrowed.frames),
+            Err(error) => Run::new().ended(Some(error)),
+        }
+    }
+
+    fn run_sink(&self, decoder: &mut Decoder<'b>) -> Run {
+        let mut sink = self.comparing();
+        let error = error_of(show(decoder, &mut sink));
+        sink.run.ended(error)
+    }
+
+    fn run_visitor(&self, decoder: &mut Decoder<'b>) -> Run {
+        let mut visitor = self.comparing();
+        let error = visit(decoder, &mut visitor).err();
+        visitor.run.ended(error)
+    }
+
+    /// What compares events with these.
+    pub fn comparing(&self) -> Comparing<'_, 'b> {
+        Comparing {
+            reference: self,
+            run: Run::new(),
+        }
+    }
+
+    /// Events whose values are put into one list, which is empty where none is given.
+    fn run_into(&self, decoder: &mut Decoder<'b>) -> Run {
+        let mut run = Run::new();
+        let mut values = Vec::new(*self.events.allocator());
+        for _ in 0..=self.bytes.len() {
+            if !self.step_into(decoder, &mut values, &mut run) {
+                break;
+            }
+        }
+        run.same &= values.is_empty();
+        run
+    }
+
+    /// The same of values that stay in the bytes.
+    fn run_ref_into(&self, decoder: &mut Decoder<'b>) -> Run {
+        let mut run = Run::new();
+        let mut values = Vec::new(*self.events.allocator());
+        for _ in 0..=self.bytes.len() {
+            if !self.step_ref_into(decoder, &mut values, &mut run) {
+                break;
+            }
+        }
+        run.same &= values.is_empty();
+        run
+    }
+
+    /// Whether there is an event, which is that of the reference.
+    fn step_into(
+        &self,
+        decoder: &mut Decoder<'b>,
+        values: &mut Vec<FieldValue>,
+        run: &mut Run,
+    ) -> bool {
+        match next_into(decoder, values) {
+            Ok(Some(head)) => {
+                let same = is_event(self.event(run.given), head, values);
+                run.give(same);
+                true
+            }
+            Ok(None) => false,
+            Err(error) => {
+                run.fail(error);
+                false
+            }
+        }
+    }
+
+    /// The same of values that stay in the bytes.
+    fn step_ref_into(
+        &self,
+        decoder: &mut Decoder<'b>,
+        values: &mut Vec<FieldValueRef<'b>>,
+        run: &mut Run,
+    ) -> bool {
+        match next_ref_into(decoder, values) {
+            Ok(Some(head)) => {
+                let same = is_event_ref(self.borrowed_event(run.given), head, values);
+                run.give(same);
+                true
+            }
+            Ok(None) => false,
+            Err(error) => {
+                run.fail(error);
+                false
+            }
+        }
+    }
+
+    /// Frames and events that are given one by one.
+    fn run_steps(&self, reader: Reader, decoder: &mut Decoder<'b>) -> Run {
+        let mut run = Run::new();
+        for _ in 0..=self.bytes.len() {
+            if !self.step(reader, decoder, &mut run) {
+                break;
+            }
+        }
+        run
+    }
+
+    /// Whether there may be more.
+    fn step(&self, reader: Reader, decoder: &mut Decoder<'b>, run: &mut Run) -> bool {
+        match reader {
+            Reader::Owned => self.take_owned(next_owned(decoder), run),
+            Reader::Borrowed => {
+                let frame = self.borrowed.frames.get(run.given);
+                take_borrowed(next_borrowed(decoder), frame, run)
+            }
+            Reader::Frames => {
+                let frame = self.borrowed.frames.get(run.given);
+                take_item(step(decoder), frame, run)
+            }
+            _ => take_item(step_events(decoder), self.borrowed_event(run.given), run),
+        }
+    }
+
+    /// Whether a frame is given, and no error.
+    pub fn take_owned(
+        &self,
+        answer: Result<Option<DecodedFrame>, DecodeError>,
+        run: &mut Run,
+    ) -> bool {
+        match answer {
+            Ok(Some(frame)) => {
+                let same = self.owned.frames.get(run.given) == Some(&frame);
+                run.give(same);
+                true
+            }
+            Ok(None) => false,
+            Err(error) => {
+                run.fail(error);
+                false
+            }
+        }
+    }
+}
+
+fn take_borrowed<'v, 'b>(
+    answer: Result<Option<DecodedFrameRef<'b>>, DecodeError>,
+    wanted: Option<&'v DecodedFrameRef<'b>>,
+    run: &mut Run,
+) -> bool {
+    match answer {
+        Ok(Some(frame)) => {
+            let same = wanted == Some(&frame);
+            run.give(same);
+            true
+        }
+        Ok(None) => false,
+        Err(error) => {
+            run.fail(error);
+            false
+        }
+    }
+}
+
+/// The same of an iterator, which goes on after an error, and then is to end.
+fn take_item<'v, 'b>(
+    item: Option<Result<DecodedFrameRef<'b>, DecodeError>>,
+    wanted: Option<&'v DecodedFrameRef<'b>>,
+    run: &mut Run,
+) -> bool {
+    match item {
+        Some(Ok(frame)) => {
+            let same = wanted == Some(&frame);
+            run.give(same);
+            true
+        }
+        Some(Err(error)) => {
+            run.fail(error);
+            true
+        }
+        None => false,
+    }
+}
+
+/// The error that a sink's reader told, if it did.
+fn error_of(answer: Result<(), TryForEachError<()>>) -> Option<DecodeError> {
+    match answer {
+        Err(TryForEachError::Decode(error)) => Some(error),
+        _ => None,
+    }
+}
+
+fn given(count: usize, same: bool) -> Run {
+    Run {
+        given: count,
+        same,
+        error: None,
+    }
+}
