@@ -380,10 +380,10 @@ fn encoder_after(
     let Some(mut decoder) = Decoder::new(alloc, trace) else {
         return Err(PlayError::Headless { line });
     };
-    let Ok(_) = decoder.decode_all() else {
-        return Err(PlayError::Memory);
-    };
-    Ok(decoder.into_encoder(Vec::new(alloc)))
+    match decoder.decode_all() {
+        Ok(_) => Ok(decoder.into_encoder(Vec::new(alloc))),
+        Err(_) => Err(PlayError::Memory),
+    }
 }
 
 // Makes the call of a line on an encoder.
