@@ -31,7 +31,8 @@ def build(original, library, folder):
 def counted(program, *args):
     """The instructions, and the bytes of the trace and of the batch."""
     command = ["valgrind", "--tool=callgrind", "--callgrind-out-file=/dev/null", program, *map(str, args)]
-    ran = subprocess.run(command, capture_output=True, text=True, check=True, env={**os.environ, "GLIBC_TUNABLES": COPIES})
+    ran = subprocess.run(command, capture_output=True, text=True, check=True,
+                         env={**os.environ, "GLIBC_TUNABLES": COPIES})
     trace, batch, _ = map(int, ran.stdout.split())
     return int(re.search(r"Collected : (\d+)", ran.stderr)[1]), trace, batch
 
@@ -52,8 +53,10 @@ def main():
                     less, _, _ = counted(program, does, who, kind, events, turns)
                     row[who] = (more - less) / (turns * events)
                     row[f"{who} bytes"] = trace / events
-                print(f"{name}: original {row['orig']:.0f}, here {row['door']:.0f}, ratio {row['door'] / row['orig']:.2f}; "
-                      f"bytes {row['orig bytes']:.1f} and {row['door bytes']:.1f}, of the batch {batch / events:.1f}", flush=True)
+                print(f"{name}: original {row['orig']:.0f}, here {row['door']:.0f}, "
+                      f"ratio {row['door'] / row['orig']:.2f}; "
+                      f"bytes {row['orig bytes']:.1f} and {row['door bytes']:.1f}, of the batch {batch / events:.1f}",
+                      flush=True)
 
 
 main()

@@ -5,10 +5,10 @@
 
 PROGRAM is a `gotymbe`, proved or not (`unproved.py --tools`). Each row has the name of an input, a subcommand, how many
 bytes the input has at the first size, and the seconds of processor time at the three sizes, and how many times the last
-takes the first: 4 where time goes by the length, 16 where it goes by its square. With WORDs only inputs or subcommands of
-these names are taken. The inputs are made so that something in them comes often: schemas, wire ids, fields, annotations,
-texts, long stacks, tracks, slices in one another, counters, headers, pieces, files, and events that are asked for by name.
-docs/TOOLS.md ("Time") says where the square stays."""
+takes the first: 4 where time goes by the length, 16 where it goes by its square. With WORDs only inputs or subcommands
+of these names are taken. The inputs are made so that something in them comes often: schemas, wire ids, fields,
+annotations, texts, long stacks, tracks, slices in one another, counters, headers, pieces, files, and events that are
+asked for by name. docs/TOOLS.md ("Time") says where the square stays."""
 import os
 import resource
 import shutil
@@ -71,13 +71,15 @@ def anew(n):
 
 def fields(n):
     """Events of as many fields, each with an annotation."""
-    return (HEADER + schema(256, b"K", [(b"%d" % it, VARINT) for it in range(n)]) + notes(256, [(it, b"a", b"b") for it in range(n)])
+    return (HEADER + schema(256, b"K", [(b"%d" % it, VARINT) for it in range(n)])
+            + notes(256, [(it, b"a", b"b") for it in range(n)])
             + event(256, b"\7" * n) * 2)
 
 
 def annotations(n):
     """Annotations of one schema in frames of their own."""
-    return HEADER + schema(256, b"K", [(b"v", VARINT)]) + b"".join(notes(256, [(0, b"%d" % it, b"b")]) for it in range(n)) + event(256, b"\7")
+    return HEADER + b"".join([schema(256, b"K", [(b"v", VARINT)]),
+                              *(notes(256, [(0, b"%d" % it, b"b")]) for it in range(n)), event(256, b"\7")])
 
 
 def texts(n):
@@ -88,17 +90,20 @@ def texts(n):
 
 def stacks(n):
     """Events with stacks that all differ."""
-    return HEADER + schema(256, b"K", [(b"s", FRAMES)]) + b"".join(event(256, u32(2) + struct.pack("<QQ", it, 1)) for it in range(n))
+    return HEADER + schema(256, b"K", [(b"s", FRAMES)]) + b"".join(event(256, u32(2) + struct.pack("<QQ", it, 1))
+                                                                   for it in range(n))
 
 
 def long_stack(n):
     """A long stack in a pool, and as many events that hold it."""
-    return HEADER + b"\4" + u32(1) + u32(0) + u32(n) + bytes(8 * n) + schema(256, b"K", [(b"s", STACK)]) + event(256, u32(0)) * n
+    pool = b"\4" + u32(1) + u32(0) + u32(n) + bytes(8 * n)
+    return HEADER + pool + schema(256, b"K", [(b"s", STACK)]) + event(256, u32(0)) * n
 
 
 def long_text(n):
     """A long text in a pool, and as many events that hold it."""
-    return HEADER + b"\3" + u32(1) + u32(0) + text(b"x" * n) + schema(256, b"K", [(b"t", POOLED)]) + event(256, u32(0)) * n
+    pool = b"\3" + u32(1) + u32(0) + text(b"x" * n)
+    return HEADER + pool + schema(256, b"K", [(b"t", POOLED)]) + event(256, u32(0)) * n
 
 
 def tracks(n):
@@ -154,18 +159,24 @@ def one_map(n):
 
 
 def one_pool(n):
-    return HEADER + b"\3" + u32(n) + b"".join(u32(it) + text(b"xxxx") for it in range(n)) + schema(256, b"K") + event(256)
+    pool = b"\3" + u32(n) + b"".join(u32(it) + text(b"xxxx") for it in range(n))
+    return HEADER + pool + schema(256, b"K") + event(256)
 
 
-READ = (["check"], ["dump"], ["dump", "--resolve"], ["json"], ["csv"], ["stats"], ["fold"], ["page"], ["chrome"], ["salvage"], ["salvage", "--resync"], ["join"], ["cut"],
+READ = (["check"], ["dump"], ["dump", "--resolve"], ["json"], ["csv"], ["stats"], ["fold"], ["page"], ["chrome"],
+        ["salvage"], ["salvage", "--resync"], ["join"], ["cut"],
         ["dump", "--merge"])
 # (each table is a file that is synced)
 BUT_TABLES = tuple(it for it in READ if it != ["csv"])
 # the inputs, each with the first size and the subcommands that are tried
 INPUTS = (
-    (schemas, 8000, BUT_TABLES), (schemas, 100, (["csv"],)), (same_ids, 16000, BUT_TABLES), (anew, 2000, BUT_TABLES), (anew, 100, (["csv"],)), (fields, 4000, READ), (annotations, 4000, READ), (texts, 20000, READ), (stacks, 20000, READ),
-    (long_stack, 1000, READ), (long_text, 1000, READ), (tracks, 4000, READ), (slices, 8000, READ), (headers, 20000, READ), (resets, 20000, READ), (back, 20000, READ), (pieces, 4000, READ),
-    (conflicts, 4000, READ), (bare_headers, 2000, (["check"], ["salvage", "--resync"], ["cut"])), (one_frame, 50000, READ), (one_map, 50000, READ), (one_pool, 50000, READ),
+    (schemas, 8000, BUT_TABLES), (schemas, 100, (["csv"],)), (same_ids, 16000, BUT_TABLES), (anew, 2000, BUT_TABLES),
+    (anew, 100, (["csv"],)), (fields, 4000, READ), (annotations, 4000, READ), (texts, 20000, READ),
+    (stacks, 20000, READ),
+    (long_stack, 1000, READ), (long_text, 1000, READ), (tracks, 4000, READ), (slices, 8000, READ),
+    (headers, 20000, READ), (resets, 20000, READ), (back, 20000, READ), (pieces, 4000, READ),
+    (conflicts, 4000, READ), (bare_headers, 2000, (["check"], ["salvage", "--resync"], ["cut"])),
+    (one_frame, 50000, READ), (one_map, 50000, READ), (one_pool, 50000, READ),
 )
 
 
@@ -174,7 +185,8 @@ def seconds(program, room, words, files):
     made = ["-o", "made"] if words[0] == "csv" else []
     shutil.rmtree(f"{room}/made", ignore_errors=True)
     before = resource.getrusage(resource.RUSAGE_CHILDREN)
-    subprocess.run([program, *words, *made, *files], cwd=room, stdout=subprocess.DEVNULL, stderr=subprocess.DEVNULL, check=False)
+    subprocess.run([program, *words, *made, *files], cwd=room, stdout=subprocess.DEVNULL, stderr=subprocess.DEVNULL,
+                   check=False)
     after = resource.getrusage(resource.RUSAGE_CHILDREN)
     return after.ru_utime - before.ru_utime + after.ru_stime - before.ru_stime
 
@@ -211,7 +223,8 @@ def main(program, words):
                 for count in (1000, 2000, 4000):
                     with open(f"{room}/n.trace", "wb") as it:
                         it.write(HEADER + schema(256, b"K") + event(256) * count)
-                    times.append(seconds(program, room, [*call, *(f"--event=N{at}" for at in range(count))], ["n.trace"]))
+                    times.append(seconds(program, room, [*call, *(f"--event=N{at}" for at in range(count))],
+                                         ["n.trace"]))
                 row("names asked for", call, 6000, times)
 
 

@@ -15,7 +15,8 @@ import subprocess
 import sys
 import tempfile
 
-# (valgrind counts each byte of `rep movsb`, by which the C library copies long pieces, as an instruction: it copies by loops here)
+# (valgrind counts each byte of `rep movsb`, by which the C library copies long pieces, as an instruction: it copies by
+# loops here)
 COPIES = "glibc.cpu.x86_rep_movsb_threshold=1000000000:glibc.cpu.x86_rep_stosb_threshold=1000000000"
 FEW, MANY, LONG = 4_000, 8_000, 2_000_000
 VARINT, TEXT = 9, 4
@@ -96,7 +97,8 @@ def main():
                     spent, most = taken([*words, *resolve], many)
                     print(f"{told}: {spent:.2f} s, {most} KB", flush=True)
                 else:
-                    one = (instructions([*words, *resolve], many) - instructions([*words, *resolve], few)) / (MANY - FEW)
+                    one = (instructions([*words, *resolve], many)
+                           - instructions([*words, *resolve], few)) / (MANY - FEW)
                     print(f"{told}: {one:.0f}", flush=True)
 
 

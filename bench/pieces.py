@@ -22,7 +22,8 @@ CRATES = ["trace_tables", "trace_values", "trace_wire", "trace_writer", "dial9_t
 NAME, BELOW = "bench_p", "trace_values dial9_trace_format trace_lines anyhow"
 HEADER = b"TRC\0\1"
 MOST_ITEMS, MOST_OF_U16 = 1_000_000, 65_535
-# (valgrind counts each byte of `rep movsb`, by which the C library copies long pieces, as an instruction: it copies by loops here)
+# (valgrind counts each byte of `rep movsb`, by which the C library copies long pieces, as an instruction: it copies by
+# loops here)
 COPIES = "glibc.cpu.x86_rep_movsb_threshold=1000000000:glibc.cpu.x86_rep_stosb_threshold=1000000000"
 VARINT, STRING, STRING_MAP, LIST, MAP = 9, 4, 10, 14, 15
 
@@ -123,13 +124,15 @@ def build(folder):
         lines = [line for line in file if line.partition(":")[0] in CRATES]
     with open(f"{port}/crates.txt", "w", encoding="utf-8") as file:
         file.writelines(lines + [f"{NAME}: {BELOW}\n"])
-    subprocess.run(["rt", "run", "--jobs", "1", "--", "feed", "1", "1"], cwd=f"{port}/crates/{NAME}", input=HEADER, check=True)
+    subprocess.run(["rt", "run", "--jobs", "1", "--", "feed", "1", "1"], cwd=f"{port}/crates/{NAME}", input=HEADER,
+                   check=True)
     return f"{port}/crates/{NAME}/out/{NAME}"
 
 
 def instructions(program, data, *words):
     # (as callgrind counts them, in a third of the time)
-    command = ["valgrind", "--tool=cachegrind", "--cache-sim=no", "--cachegrind-out-file=/dev/null", program, *map(str, words)]
+    command = ["valgrind", "--tool=cachegrind", "--cache-sim=no", "--cachegrind-out-file=/dev/null", program,
+               *map(str, words)]
     with tempfile.TemporaryFile() as file:
         file.write(data)
         file.seek(0)
@@ -145,7 +148,8 @@ def count_frames(program, size, piece, parts):
             # (what is no reading)
             beside = instructions(program, data, "feed", piece, 0)
             whole = instructions(program, data, "feed", len(data), 1) - beside
-            told = [f"{form} {(instructions(program, data, form, piece, 1) - beside) / whole:6.2f}" for form in ("feed", "pull")]
+            told = [f"{form} {(instructions(program, data, form, piece, 1) - beside) / whole:6.2f}"
+                    for form in ("feed", "pull")]
             print(f"{kind:13} parts of {part:5,} frame of {len(data):10,} pieces of {piece:5,}: whole {whole:13,}  "
                   + "  ".join(told), flush=True)
 
@@ -187,8 +191,10 @@ def count_memory(program):
     for kind, make in KINDS.items():
         for part in (1, 64, 1000):
             data = make(part, 4_000_000)
-            told = [f"{form} {most_memory(program, form, [data])[0] / len(data) * 1024:5.1f}" for form in ("dump", "pieces")]
-            print(f"{kind:13} parts of {part:5,} frame of {len(data):10,}: the most memory over it  " + "  ".join(told), flush=True)
+            told = [f"{form} {most_memory(program, form, [data])[0] / len(data) * 1024:5.1f}"
+                    for form in ("dump", "pieces")]
+            print(f"{kind:13} parts of {part:5,} frame of {len(data):10,}: the most memory over it  "
+                  + "  ".join(told), flush=True)
 
 
 def main():

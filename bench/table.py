@@ -18,24 +18,31 @@ WRITES = {
     "known-texts": ("intern_string", "a known text"), "new-texts": ("intern_string", "a new text"),
     "register1000": ("register_schema", "one of 1,000 schemas"), "slot": ("write", "three numbers, by a slot"),
     "name": ("write", "three numbers, by a name"), "small10": ("a new encoder", "ten events, whole"),
-    "reset10": ("reset_to", "after ten events, whole"), "bufwriter": ("write_event` into a `BufWriter", "three numbers"),
+    "reset10": ("reset_to", "after ten events, whole"),
+    "bufwriter": ("write_event` into a `BufWriter", "three numbers"),
     "plainvec": ("write_event` into `Plain", "three numbers"), "spool64": ("write_string_pool", "an entry of 64"),
-    "encode-num": ("FieldValue::encode", "a number, after others"), "encode-text": ("FieldValue::encode", "a text, after others"),
-    "encode-list": ("FieldValue::encode", "a nested list, after others"), "known-stack": ("intern_stack_frames", "a known stack of 32"),
-    "new-stack": ("intern_stack_frames", "a new stack of 32"), "slot-wide": ("write", "U8, PooledString, Varint, by a slot"),
+    "encode-num": ("FieldValue::encode", "a number, after others"),
+    "encode-text": ("FieldValue::encode", "a text, after others"),
+    "encode-list": ("FieldValue::encode", "a nested list, after others"),
+    "known-stack": ("intern_stack_frames", "a known stack of 32"),
+    "new-stack": ("intern_stack_frames", "a new stack of 32"),
+    "slot-wide": ("write", "U8, PooledString, Varint, by a slot"),
     "known-event": ("write_known_event", "three numbers"), "known-slot": ("write_known", "three numbers"),
 }
 WAYS = {
-    "clone": "DecodedFrame::clone", "eq": "DecodedFrame`: `==", "ref_clone": "DecodedFrameRef::clone", "ref_eq": "DecodedFrameRef`: `==",
+    "clone": "DecodedFrame::clone", "eq": "DecodedFrame`: `==", "ref_clone": "DecodedFrameRef::clone",
+    "ref_eq": "DecodedFrameRef`: `==",
     "to_owned": "FieldValueRef::to_owned", "resolve": "RawEvent::resolve", "iterate": "a sink over items and pairs",
 }
 ALONE = {
-    "encode": "FieldValue::encode", "decode": "FieldValue::decode", "clone": "FieldValue::clone", "eq": "FieldValue`: `==",
+    "encode": "FieldValue::encode", "decode": "FieldValue::decode", "clone": "FieldValue::clone",
+    "eq": "FieldValue`: `==",
     "ref_decode": "FieldValueRef::decode", "ref_clone": "FieldValueRef::clone", "ref_eq": "FieldValueRef`: `==",
     "to_owned": "FieldValueRef::to_owned", "iterate": "iterators",
 }
 KINDS = {
-    "num": "a number", "i64": "an I64", "bool": "a Bool", "pooled": "a pooled id", "text": "a text", "bytes16": "16 bytes",
+    "num": "a number", "i64": "an I64", "bool": "a Bool", "pooled": "a pooled id", "text": "a text",
+    "bytes16": "16 bytes",
     "text1k": "a text of 1 KB", "stack32": "a stack of 32", "stack128": "a stack of 128", "smap": "a map of texts",
     "list": "a nested list", "map": "a map", "list100": "a list of 100 numbers",
 }

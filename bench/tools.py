@@ -17,7 +17,8 @@ import tempfile
 import time
 
 TOP = os.path.dirname(os.path.dirname(os.path.abspath(__file__)))
-# (valgrind counts each byte of `rep movsb`, by which the C library copies long pieces, as an instruction: it copies by loops here)
+# (valgrind counts each byte of `rep movsb`, by which the C library copies long pieces, as an instruction: it copies by
+# loops here)
 COPIES = "glibc.cpu.x86_rep_movsb_threshold=1000000000:glibc.cpu.x86_rep_stosb_threshold=1000000000"
 FEW, MANY, LONG = 4_000, 8_000, 8_000_000
 SHORT, HUGE = 800_000, 90_000_000
@@ -51,7 +52,8 @@ def trace(count):
     schema = b"\1" + struct.pack("<H", 256) + counted(b"Poll") + b"\1" + struct.pack("<H", 3)
     schema += b"".join(counted(name) + b"\x09" for name in (b"worker", b"task", b"wait_ns"))
     delta = struct.pack("<I", 1000)[:3]
-    event = [b"\2" + struct.pack("<H", 256) + delta + leb128(n % 16) + leb128(1000 + n) + leb128(n * 7919 % 100_000) for n in range(1000)]
+    event = [b"\2" + struct.pack("<H", 256) + delta + leb128(n % 16) + leb128(1000 + n) + leb128(n * 7919 % 100_000)
+             for n in range(1000)]
     return b"TRC\0\1" + schema + (b"".join(event) * (count // 1000))
 
 
@@ -63,7 +65,8 @@ def words_of(program, call, room, path):
 
 def instructions(program, call, room, path):
     command = ["valgrind", "--tool=callgrind", "--callgrind-out-file=/dev/null", *words_of(program, call, room, path)]
-    ended = subprocess.run(command, stdout=subprocess.DEVNULL, stderr=subprocess.PIPE, text=True, env={**os.environ, "GLIBC_TUNABLES": COPIES})
+    ended = subprocess.run(command, stdout=subprocess.DEVNULL, stderr=subprocess.PIPE, text=True,
+                           env={**os.environ, "GLIBC_TUNABLES": COPIES})
     return int(re.search(r"Collected : (\d+)", ended.stderr)[1])
 
 
@@ -111,9 +114,11 @@ def main(words):
         size = os.path.getsize(f"{room}/{LONG}.trace")
         print(f"{'call':15} {'instructions':>12} {'ns':>6} {'memory':>10}   ({size:,} bytes)")
         for call in CALLS:
-            each = (instructions(program, call, room, f"{room}/{MANY}.trace") - instructions(program, call, room, f"{room}/{FEW}.trace")) / (MANY - FEW)
+            each = (instructions(program, call, room, f"{room}/{MANY}.trace")
+                    - instructions(program, call, room, f"{room}/{FEW}.trace")) / (MANY - FEW)
             used, most = taken(program, call, room, f"{room}/{LONG}.trace")
-            print(f"{call:15} {each:12,.0f} {used / LONG * 1e9:6,.0f} {most / 1e6:7,.1f} MB{' (whole)' if call in WHOLE else ''}", flush=True)
+            whole = " (whole)" if call in WHOLE else ""
+            print(f"{call:15} {each:12,.0f} {used / LONG * 1e9:6,.0f} {most / 1e6:7,.1f} MB{whole}", flush=True)
     return 0
 
 

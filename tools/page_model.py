@@ -67,9 +67,13 @@ class Event:
     def role(self, name):
         return self.fields()[self.roles[name]] if self.roles[name] is not None else (None, None, None, None)
 
+    def is_unknown(self, role):
+        """Whether the field of a role is an id of a text that the trace does not hold."""
+        _, kind, _, value = self.role(role)
+        return kind == "String" and isinstance(value, dict)
+
     def shape(self):
-        _, kind, _, value = self.role("tid")
-        if kind == "String" and isinstance(value, dict):
+        if self.is_unknown("tid") or self.is_unknown("name"):
             return "instant"
         order = ("begin", "begin"), ("end", "end"), ("duration", "slice")
         return next((shape for role, shape in order if self.roles[role] is not None), "instant")
@@ -94,17 +98,22 @@ class Event:
             elif field["counter"] == "gauge" and float(value) - float(value) == 0:
                 yield name, True, float(value)
 
-    def track(self):
-        """What its track is known by: its sort, and what it has for a key."""
+    def track_said(self):
+        """How it says its track, and the name of that, by which it is known."""
         _, kind, _, value = self.role("tid")
         if kind in ("I64", "Varint") and isinstance(value, (int, str)):
-            return 0, int(value)
+            return 0, str(value)
         if kind == "String" and isinstance(value, int):
             return 1, self.data["strings"][value]
         return 2, self.base_name()
 
+    def track(self):
+        return self.track_said()[1]
+
     def track_name(self, tracks):
-        return tracks[self.track()]
+        """What its track is called: by the first event on it, and by the field if that says a number."""
+        sort, field = tracks[self.track()]
+        return f"{field} {self.track()}" if sort == 0 else self.track()
 
     def end(self):
         return self.place + (self.length or 0)
@@ -121,10 +130,10 @@ class Model:
             size = len(schema["fields"])
             self.events.append(Event(data, number, schema, time, columns["values"][at:at + size]))
             at += size
+        # (how the first event on a track says it, and by which field)
         self.tracks = {}
         for event in self.events:
-            name = f"{event.role('tid')[0]} {event.track()[1]}" if event.track()[0] == 0 else event.track()[1]
-            self.tracks.setdefault(event.track(), name)
+            self.tracks.setdefault(event.track(), (event.track_said()[0], event.role("tid")[0]))
         self.pair()
 
     def zero(self, event):
@@ -158,9 +167,10 @@ class Model:
         order, found = {key: at for at, key in enumerate(self.tracks)}, []
 
         def place(key):
+            sort, _ = self.tracks[key]
             # (numbers in texts stand by their size)
-            by_size = key[0] == 1 and re.sub("[0-9]+", lambda it: it[0].rjust(20, "0"), key[1])
-            return key[0], order[key] if key[0] == 2 else by_size or key[1]
+            by_size = re.sub("[0-9]+", lambda it: it[0].rjust(20, "0"), key)
+            return sort, order[key] if sort == 2 else by_size if sort == 1 else int(key)
 
         for key in sorted(self.tracks, key=place):
             events = [event for event in self.events if event.track() == key]
@@ -171,7 +181,7 @@ class Model:
                                 key=lambda it: (it.place, -it.length, it.number)):
                 at = next((at for at, row in enumerate(rows) if row[-1].end() <= event.place or at == 63), len(rows))
                 rows[at:at + 1] = [rows[at] + [event]] if at < len(rows) else [[event]]
-            name = self.tracks[key]
+            name = events[0].track_name(self.tracks)
             found += [["marks", name, len(marks)]] * bool(marks) + [["slices", name, len(row)] for row in rows]
         return found
 
@@ -180,7 +190,7 @@ class Model:
         found, sums = {}, {}
         for event in self.events:
             for name, is_gauge, number in event.counted():
-                key = event.schema["name"], name, self.tracks[event.track()]
+                key = event.schema["name"], name, event.track_name(self.tracks)
                 if not is_gauge:
                     number = sums[key] = max(-2**63, min(2**63 - 1, sums.get(key, 0) + number))
                 found.setdefault(key, {})[event] = float(number)
@@ -237,7 +247,8 @@ class Model:
         if value is None or isinstance(value, dict) or kind in ("StackFrames", "StringMap", "List", "Map"):
             return False
         if not is_number(kind):
-            own = {"Text": value, "Bool": str(value).lower()}.get(kind) or self.data["strings"][value]
+            own = {"Text": value, "Bool": str(value).lower()}.get(kind)
+            own = self.data["strings"][value] if own is None else own
             return how in ("=", "!=") and OPERATORS[how](own.lower(), text)
         parts = re.fullmatch(r"(-?\d+(?:\.\d+)?(?:e[-+]?\d+)?)(ns|us|ms|s|b|kib|mib|gib)?", text)
         if not parts:

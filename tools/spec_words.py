@@ -14,6 +14,7 @@ LIBRARIES = [
     *("trace_events", "trace_lines", "trace_json", "trace_csv", "trace_fronts", "trace_stats", "trace_cuts",
       "trace_batch", "trace_door"),
     *("trace_roles", "trace_folded", "trace_chrome", "trace_page"),
+    *("rotating_recorder", "trace_converter"),
 ]
 NAME = r"(?:◌\S+?◌|[^\s(){},;:.=]+)"
 

@@ -188,6 +188,35 @@ class Ample(unittest.TestCase):
             record_batch(bytes(batch + b"\1\0\0" + named("more") + number(0, 4)))
         self.assertEqual((it.exception.code, it.exception.place), (36, 65536 - 256))
 
+    def test_more_annotations_than_a_record_counts(self):
+        """All events before a schema gets more annotations than two bytes count are read, by any number at a time; what
+        comes then is refused (TOO_LONG), though the trace reads whole."""
+        wanted, note = Wanted(), number(0, 2) + named("k") + counted(b"v")
+        wire_id = wanted.schema("A", [("n", VARINT)])
+        wanted.event(wire_id, 1, [(VARINT, b"\1")])
+        wanted.event(wire_id, 2, [(VARINT, b"\2")])
+        trace = wanted.trace()
+        for count in (65535, 1):
+            trace += b"\6" + leb128(wire_id) + number(count, 2) + note * count
+        self.assertEqual(check(trace), 2)
+        one_more = len(wanted.trace()) + 1 + len(leb128(wire_id)) + 2 + 65535 * len(note)
+        for most, before in ((ALL, b""), (2, b""), (1, read_batch(trace, most=1).state)):
+            place = len(wanted.trace()) - 7 if before else 0
+            found = read_batch(trace, before, most, place)
+            self.assertEqual((found.events, found.stop), (1 if before else 2, None))
+            self.assertEqual(place + found.length, one_more)
+            with self.assertRaises(TraceError) as it:
+                read_batch(trace, found.state, most, one_more)
+            self.assertEqual(it.exception.code, 35)
+        found = read_batch(trace, most=1)
+        self.assertEqual((found.events, found.length, found.stop), (1, len(wanted.trace()) - 7, None))
+        self.assertTrue(found.batch == b"".join(wanted.records[:2]))
+        times = []
+        with self.assertRaises(TraceError) as it:
+            for event in gotymbe.read(trace):
+                times.append(event.time)
+        self.assertEqual((times, it.exception.code), ([1, 2], 35))
+
     def test_going_on_at_each_count(self):
         """Read by so many events at a time, the events are all, and each batch knows the schema."""
         for count, most in ((10, 1), (100, 1), (1000, 1), (1000, 999), (10000, 100), (100000, 9999)):

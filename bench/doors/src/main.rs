@@ -82,7 +82,10 @@ fn main() {
             (false, true) => read_batch(&[], black_box(&trace), events).unwrap().events,
             (false, false) => {
                 let mut seen = 0;
-                Decoder::new(black_box(&trace)).unwrap().for_each_event(|event| seen += black_box(event.fields.len()) as u64 / 3).unwrap();
+                Decoder::new(black_box(&trace))
+                    .unwrap()
+                    .for_each_event(|event| seen += black_box(event.fields.len()) as u64 / 3)
+                    .unwrap();
                 seen
             }
         };

@@ -34,7 +34,12 @@ fn stacks(n: u64, count: u64) -> Vec<u8> {
 }
 fn maps(count: u64) -> Vec<u8> {
     let pair = |k: &str, v: &str| (k.as_bytes().to_vec(), v.as_bytes().to_vec());
-    let pairs = vec![pair("method", "GET"), pair("path", "/index/of/things.html"), pair("status", "200"), pair("host", "example.org")];
+    let pairs = vec![
+        pair("method", "GET"),
+        pair("path", "/index/of/things.html"),
+        pair("status", "200"),
+        pair("host", "example.org"),
+    ];
     repeated(&[("map", T::StringMap)], &[V::StringMap(pairs)], count)
 }
 /// A trace of so many events.

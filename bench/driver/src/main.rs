@@ -39,12 +39,17 @@ fn main() {
         }
         // decode IMPL WORK EVENTS FORM TURNS
         "decode" => {
-            let (work, n, form, turns): (u32, u64, u32, u64) = (work_of(&a[2]), a[3].parse().unwrap(), a[4].parse().unwrap(), a[5].parse().unwrap());
+            let (work, n, form, turns): (u32, u64, u32, u64) =
+                (work_of(&a[2]), a[3].parse().unwrap(), a[4].parse().unwrap(), a[5].parse().unwrap());
             let data = written(work, n);
             let before = peak_kib();
             let mut t = 0u64;
             for _ in 0..turns {
-                t = t.wrapping_add(if a[1] == "orig" { reading::decoded(form, &data) } else { unsafe { port_decode(form, data.as_ptr(), data.len()) } });
+                t = t.wrapping_add(if a[1] == "orig" {
+                    reading::decoded(form, &data)
+                } else {
+                    unsafe { port_decode(form, data.as_ptr(), data.len()) }
+                });
             }
             println!("{} bytes {} peak before {before} after {} KiB", black_box(t), data.len(), peak_kib());
         }
@@ -52,7 +57,11 @@ fn main() {
         "put" => {
             let xs = numbers(a[3] == "small");
             let turns = a[4].parse().unwrap();
-            let v = if a[1] == "orig" { numbers::put(&xs, turns) } else { unsafe { port_put(a[2].parse().unwrap(), xs.as_ptr(), xs.len(), turns) } };
+            let v = if a[1] == "orig" {
+                numbers::put(&xs, turns)
+            } else {
+                unsafe { port_put(a[2].parse().unwrap(), xs.as_ptr(), xs.len(), turns) }
+            };
             println!("{}", black_box(v));
         }
         "take" => {
@@ -61,18 +70,28 @@ fn main() {
             let mut t = 0u64;
             for _ in 0..turns {
                 let d = black_box(&data);
-                t = t.wrapping_add(if a[1] == "orig" { numbers::take(d) } else { unsafe { port_take(d.as_ptr(), d.len()) } });
+                t = t.wrapping_add(if a[1] == "orig" {
+                    numbers::take(d)
+                } else {
+                    unsafe { port_take(d.as_ptr(), d.len()) }
+                });
             }
             println!("{}", black_box(t));
         }
         // xdecode IMPL TRACE EVENTS FORM TURNS: `decode` over a further trace
         "xdecode" => {
-            let trace = extra::TRACES.iter().position(|x| *x == a[2]).unwrap_or_else(|| panic!("no trace {}", a[2])) as u32;
-            let (n, form, turns): (u64, u32, u64) = (a[3].parse().unwrap(), a[4].parse().unwrap(), a[5].parse().unwrap());
+            let trace =
+                extra::TRACES.iter().position(|x| *x == a[2]).unwrap_or_else(|| panic!("no trace {}", a[2])) as u32;
+            let (n, form, turns): (u64, u32, u64) =
+                (a[3].parse().unwrap(), a[4].parse().unwrap(), a[5].parse().unwrap());
             let data = extra::written(trace, n);
             let mut t = 0u64;
             for _ in 0..turns {
-                t = t.wrapping_add(if a[1] == "orig" { reading::decoded(form, &data) } else { unsafe { port_decode(form, data.as_ptr(), data.len()) } });
+                t = t.wrapping_add(if a[1] == "orig" {
+                    reading::decoded(form, &data)
+                } else {
+                    unsafe { port_decode(form, data.as_ptr(), data.len()) }
+                });
             }
             println!("{}", black_box(t));
         }
@@ -86,12 +105,20 @@ fn main() {
                 let o = written(w as u32, n);
                 let same = hash_of(&o) == unsafe { port_write(w as u32, n, 1) };
                 // (the texts alone are no trace)
-                let sums = *name == "texts-made" || (0..FORMS.len() as u32).all(|f| reading::decoded(f, &o) == unsafe { port_decode(f, o.as_ptr(), o.len()) });
-                println!("{name:16} bytes {} {} sums {}", o.len(), if same { "same" } else { "DIFFER" }, if sums { "same" } else { "DIFFER" });
+                let sums = *name == "texts-made"
+                    || (0..FORMS.len() as u32)
+                        .all(|f| reading::decoded(f, &o) == unsafe { port_decode(f, o.as_ptr(), o.len()) });
+                println!(
+                    "{name:16} bytes {} {} sums {}",
+                    o.len(),
+                    if same { "same" } else { "DIFFER" },
+                    if sums { "same" } else { "DIFFER" }
+                );
             }
             for (trace, name) in extra::TRACES.iter().enumerate() {
                 let o = extra::written(trace as u32, 50);
-                let sums = (0..FORMS.len() as u32).all(|f| reading::decoded(f, &o) == unsafe { port_decode(f, o.as_ptr(), o.len()) });
+                let sums = (0..FORMS.len() as u32)
+                    .all(|f| reading::decoded(f, &o) == unsafe { port_decode(f, o.as_ptr(), o.len()) });
                 println!("{name:16} bytes {} sums {}", o.len(), if sums { "same" } else { "DIFFER" });
             }
         }
@@ -100,7 +127,14 @@ fn main() {
             let k: usize = a[1].parse().unwrap();
             let n: u64 = a[2].parse().unwrap();
             let only = a.get(3).cloned().unwrap_or_default();
-            let row = |name: &str, per: f64, (o, p): (f64, f64)| println!("{name:34} original {:8.1} ns  library {:8.1} ns  ratio {:5.2}", o / per * 1e9, p / per * 1e9, p / o);
+            let row = |name: &str, per: f64, (o, p): (f64, f64)| {
+                println!(
+                    "{name:34} original {:8.1} ns  library {:8.1} ns  ratio {:5.2}",
+                    o / per * 1e9,
+                    p / per * 1e9,
+                    p / o
+                )
+            };
             for (w, name) in WORKS.iter().enumerate() {
                 if !name.contains(&only) {
                     continue;
@@ -108,14 +142,26 @@ fn main() {
                 let w = w as u32;
                 let m = if w == REGISTERS { n / 10000 + 1 } else { n };
                 let per = if w == REGISTERS { m as f64 * 1000.0 } else { m as f64 };
-                row(&format!("write {name}"), per, both(k, || written(w, m).len() as u64, || unsafe { port_write(w, m, 0) }));
+                row(
+                    &format!("write {name}"),
+                    per,
+                    both(k, || written(w, m).len() as u64, || unsafe { port_write(w, m, 0) }),
+                );
                 if !READ.contains(name) {
                     continue;
                 }
                 let data = written(w, m);
                 for (form, f) in FORMS.iter().enumerate() {
                     let form = form as u32;
-                    row(&format!("{f} {name}"), per, both(k, || reading::decoded(form, &data), || unsafe { port_decode(form, data.as_ptr(), data.len()) }));
+                    row(
+                        &format!("{f} {name}"),
+                        per,
+                        both(
+                            k,
+                            || reading::decoded(form, &data),
+                            || unsafe { port_decode(form, data.as_ptr(), data.len()) },
+                        ),
+                    );
                 }
             }
         }

@@ -1,5 +1,5 @@
 -- What encoders have to answer over a writer that fails.
-use Rattle.std.specs.Prelude.{◌≡◌, ℕ, ◌<◌, ◌+◌, ◌-◌, ◌^◌, nat_lt, min, Bool, true, false, Option, Some, None}
+use Rattle.std.specs.Prelude.{◌≡◌, ℕ, ◌<◌, ◌+◌, ◌-◌, ◌^◌, nat_lt, min, Bool, Option, Some, None}
 use Rattle.std.specs.Prelude.{Result, Ok, Err}
 use Rattle.std.specs.declared.io.ErrorKind.{ErrorKind}
 use Rattle.std.specs.declared.io.ErrorKind.TheVariants as io_kinds
@@ -25,12 +25,6 @@ pub record IsAnswer (failing : Option ℕ) (call : ℕ) (kind : ErrorKind) (answ
   pub before : (at : ℕ) → failing ≡ Some at → call < at → answer ≡ Ok tt
   pub here : (at : ℕ) → failing ≡ Some at → call ≡ at → answer ≡ Err (errors.Writer kind)
   pub after : (at : ℕ) → failing ≡ Some at → at < call → answer ≡ Err errors.Failed
-
--- it was tried, and is not right
-abbrev pub is_wrong : Option Bool → Bool
-is_wrong None = false
-is_wrong (Some true) = false
-is_wrong (Some false) = true
 
 -- one more, up to the greatest number of 64 bits
 abbrev pub one_more : ℕ → ℕ

@@ -1,8 +1,7 @@
 //! What the program prints.
 
 ghost use Rattle.std.specs.Prelude.{◌≡◌, if◌then◌else◌};
-ghost use Rattle.std.specs.Option.{is_some};
-ghost use Rattle.failing_writers.specs.Wanted.{is_wrong, one_more};
+ghost use Rattle.failing_writers.specs.Wanted.{one_more};
 
 use crate::afterwards::{
     begins_again, counts_raw_bytes, fails_by_flush, keeps_old_writer, stays_failed_raw,
@@ -24,12 +23,11 @@ const FAULTS: [Fault; 3] = [
 /// How many bytes writers take at most at a time.
 const STEPS: [usize; 3] = [1, 7, 1_000_000];
 
-/// How many were tried, how many were not right, and how many have calls that no list has.
+/// How many were tried, and how many were not right.
 #[derive(Clone, Copy)]
 pub struct Counts {
     tried: u64,
     differ: u64,
-    unlisted: u64,
 }
 
 impl Counts {
@@ -38,27 +36,18 @@ impl Counts {
         Counts {
             tried: 0,
             differ: 0,
-            unlisted: 0,
         }
     }
 
     /// Counts one more, up to the greatest number of 64 bits.
-    pub fn add(&mut self, right: Option<bool>)
-        ensures tried { self.new.tried
-            ≡ (if is_some right then one_more self.old.tried else self.old.tried) }
+    pub fn add(&mut self, right: bool)
+        ensures tried { self.new.tried ≡ one_more self.old.tried }
         ensures differ { self.new.differ
-            ≡ (if is_wrong right then one_more self.old.differ else self.old.differ) }
-        ensures unlisted { self.new.unlisted
-            ≡ (if is_some right then self.old.unlisted else one_more self.old.unlisted) }
+            ≡ (if right then self.old.differ else one_more self.old.differ) }
     {
-        match right {
-            None => self.unlisted = self.unlisted.saturating_add(1),
-            Some(right) => {
-                self.tried = self.tried.saturating_add(1);
-                if !right {
-                    self.differ = self.differ.saturating_add(1);
-                }
-            }
+        self.tried = self.tried.saturating_add(1);
+        if !right {
+            self.differ = self.differ.saturating_add(1);
         }
     }
 }
@@ -90,10 +79,8 @@ fn run_worked(rt: &(impl AllocGlobal + Print), worked: Worked) -> anyhow::Result
     let listed = counts_by(rt.alloc(), worked, Way::Listed)?;
     let name = name_of(worked);
     let (calls, lists) = (single.tried, listed.tried);
-    let (unlisted, differ) = (listed.unlisted, single.differ.saturating_add(listed.differ));
-    println!(rt;
-        "{name}: {length} bytes; {calls} by calls, {lists} by lists, {unlisted} not; {differ} differ"
-    )?;
+    let differ = single.differ.saturating_add(listed.differ);
+    println!(rt; "{name}: {length} bytes; {calls} by calls, {lists} by lists; {differ} differ")?;
     Ok(differ == 0)
 }
 
@@ -123,19 +110,19 @@ fn counts_by(alloc: Global, worked: Worked, way: Way) -> Result<Counts, AllocErr
 fn run_afterwards(rt: &(impl AllocGlobal + Print)) -> anyhow::Result<bool> {
     let mut counts = Counts::new();
     for fault in FAULTS {
-        counts.add(Some(keeps_old_writer(rt.alloc(), fault)?));
-        counts.add(Some(begins_again(rt.alloc(), fault)?));
-        counts.add(Some(stays_failed_raw(rt.alloc(), fault)?));
-        counts.add(Some(counts_raw_bytes(rt.alloc(), fault)?));
+        counts.add(keeps_old_writer(rt.alloc(), fault)?);
+        counts.add(begins_again(rt.alloc(), fault)?);
+        counts.add(stays_failed_raw(rt.alloc(), fault)?);
+        counts.add(counts_raw_bytes(rt.alloc(), fault)?);
     }
     for kind in [
         ErrorKind::BrokenPipe,
         ErrorKind::Interrupted,
         ErrorKind::StorageFull,
     ] {
-        counts.add(Some(fails_by_flush(rt.alloc(), kind)?));
+        counts.add(fails_by_flush(rt.alloc(), kind)?);
         for worked in ALL {
-            counts.add(Some(fails_to_flush(rt.alloc(), worked, kind)?));
+            counts.add(fails_to_flush(rt.alloc(), worked, kind)?);
         }
     }
     let (tried, differ) = (counts.tried, counts.differ);

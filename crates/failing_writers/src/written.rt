@@ -6,7 +6,7 @@ use dial9_trace_format::encoder::{Call, Encoder, Reply, run_calls};
 use dial9_trace_format::leb128::{EncodeError, Plain};
 use std::alloc::{AllocError, Global};
 use std::io::ErrorKind;
-use worked_traces::{Step, Worked, bytes_of, ends_of, make, parts_of};
+use worked_traces::{Step, Worked, bytes_of, calls_of, ends_of, make, parts_of};
 
 /// By what calls a trace is written.
 #[derive(Clone, Copy, PartialEq, Eq, Debug)]
@@ -18,24 +18,23 @@ pub enum Way {
 }
 
 /// Whether all is as it should be where the trace is written over a writer of this manner: which call fails, by which
-/// answer, how many bytes are counted and which are out, and what comes afterwards. `None` where a list of calls
-/// cannot have the trace's calls.
+/// answer, how many bytes are counted and which are out, and what comes afterwards.
 pub fn is_right(
     alloc: Global,
     worked: Worked,
     manner: Manner,
     way: Way,
-) -> Result<Option<bool>, AllocError> {
+) -> Result<bool, AllocError> {
     let (bytes, ends) = (bytes_of(worked), ends_of(worked));
     let mut writer = Breaking::new(alloc, manner);
     let mut before = 0;
     let mut index: usize = 0;
     for steps in parts_of(alloc, worked)? {
         let Some(ends) = ends.get(index) else {
-            return Ok(Some(false));
+            return Ok(false);
         };
         let Some(end) = ends.last() else {
-            return Ok(Some(false));
+            return Ok(false);
         };
         let part = Part {
             bytes,
@@ -47,13 +46,12 @@ pub fn is_right(
         let (first, second) = (Plain(&mut writer), Plain(&mut next));
         let right = match way {
             Way::Single => part.is_right_by_calls(alloc, first, second, &steps)?,
-            Way::Listed => match calls_of(alloc, steps)? {
-                Some(calls) => part.is_right_by_list(alloc, first, second, &calls)?,
-                None => return Ok(None),
-            },
+            Way::Listed => {
+                part.is_right_by_list(alloc, first, second, &calls_of(alloc, steps)?)?
+            }
         };
         if !right {
-            return Ok(Some(false));
+            return Ok(false);
         }
         if failing_call(ends, manner.place).is_some() {
             break;
@@ -62,19 +60,7 @@ pub fn is_right(
         index = index.saturating_add(1);
     }
     let sent = bytes.get(..manner.place).unwrap_or(bytes);
-    Ok(Some(writer.bytes.as_slice() == sent))
-}
-
-/// The calls of the steps, where all of them are such.
-fn calls_of(alloc: Global, steps: Vec<Step>) -> Result<Option<Vec<Call>>, AllocError> {
-    let mut calls = Vec::new(alloc);
-    for step in steps {
-        match step {
-            Step::Call(call) => calls.push(call)?,
-            _ => return Ok(None),
-        }
-    }
-    Ok(Some(calls))
+    Ok(writer.bytes.as_slice() == sent)
 }
 
 /// What one encoder writes of a trace.

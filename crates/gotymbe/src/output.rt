@@ -92,7 +92,7 @@ pub(crate) fn begin_place(
     }
 }
 
-/// What stands under a name.
+/// What stands under a name. A link that leads nowhere is there too: it is replaced as a file is.
 pub(crate) fn standing(rt: &impl Files, name: &str) -> Standing {
     match fs::metadata(rt, name) {
         Ok(found) => {
@@ -102,7 +102,10 @@ pub(crate) fn standing(rt: &impl Files, name: &str) -> Standing {
                 Standing::Other
             }
         }
-        Err(_) => Standing::Nothing,
+        Err(_) => match fs::symlink_metadata(rt, name) {
+            Ok(_) => Standing::File,
+            Err(_) => Standing::Nothing,
+        },
     }
 }
 

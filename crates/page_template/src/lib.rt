@@ -7,7 +7,7 @@ pub const HEAD: &str = "<!doctype html>
 <head>
 <meta charset=\"utf-8\">
 <meta http-equiv=\"Content-Security-Policy\" content=\"default-src 'none';
-  script-src 'sha256-5eCSTz1kSJTiX09LEnrJX0AGiwnh+I1IgBFAdsYtxO0=';
+  script-src 'sha256-hOpnDhFsDCW1WXoqoaprS/ZQq4i32cdl8gI5VRhPG9c=';
   style-src 'sha256-7Ce6TegYy3iLcNdVChw1ebDIc3OwkziIPAnwY40L0Lc=';
   img-src data:;
   base-uri 'none';
@@ -549,7 +549,7 @@ function readEvent(event) {
 const schemaOf = (event) => trace.schemas[trace.schemaOf[event]];
 const valueOf = (event, field) => trace.values[trace.valuesAt[event] + field.at];
 
-// What an event is: by its schema, but an instant where its track is an id under which the trace has nothing.
+// What an event is: by its schema, but an instant where its track or its name is an id that the trace does not hold.
 const shapeOf = (event) => (trace.isLost[event] ? INSTANT : schemaOf(event).shape);
 
 // The name of an event: the text or the whole number of its field of that role, else its group, else its schema's name.
@@ -562,6 +562,12 @@ function labelOf(event) {
   return field.kind === \"String\" ? trace.strings[value] : schema.group ?? schema.name;
 }
 
+// Whether a field of an event is an id of a text that the trace does not hold.
+function isUnknown(event, field) {
+  const value = field?.kind === \"String\" ? valueOf(event, field) : null;
+  return value !== null && typeof value === \"object\";
+}
+
 // The number that a value is, as near as a double comes; NaN where it is none.
 function numberOf(value) {
   return typeof value === \"object\" ? NaN : Number(value);
@@ -571,17 +577,22 @@ function numberOf(value) {
 
 const SORTS = [\"number\", \"text\", \"name\"]; // of tracks, as they stand
 
-// Gives each event its track. Tracks stand by number, then by text, then those of groups and schemas.
+// Gives each event its track. Tracks of one name are one, whatever says it. By what the first of its events says a
+// track stands among the numbers, after these among the texts, or last with groups and schemas.
 function findTracks() {
-  const tracks = [];
+  const tracks = new Map();
   const known = { number: new Map(), text: new Map(), name: new Map() };
-  const find = (sort, key, name) => {
-    let track = known[sort].get(key);
+  const add = (sort, key, name) => {
+    const track = { name, sort: SORTS.indexOf(sort), key, at: tracks.size, open: [], groups: new Map() };
+    if (sort === \"text\") track.order = key.replace(/[0-9]+/g, (digits) => digits.padStart(20, \"0\"));
+    tracks.set(key, track);
+    return track;
+  };
+  const find = (sort, said, key, field) => {
+    let track = known[sort].get(said);
     if (track === undefined) {
-      track = { name: name(), sort: SORTS.indexOf(sort), key, at: tracks.length, open: [], groups: new Map() };
-      if (sort === \"text\") track.order = track.name.replace(/[0-9]+/g, (digits) => digits.padStart(20, \"0\"));
-      known[sort].set(key, track);
-      tracks.push(track);
+      track = tracks.get(key()) ?? add(sort, key(), field ? `${field.name} ${said}` : key());
+      known[sort].set(said, track);
     }
     return track;
   };
@@ -591,15 +602,15 @@ function findTracks() {
     const schema = schemaOf(event);
     const field = schema.fields[schema.roles.tid];
     const value = field ? valueOf(event, field) : null;
-    if (field?.kind === \"String\" && value !== null && typeof value === \"object\") trace.isLost[event] = 1;
+    if (isUnknown(event, field) || isUnknown(event, schema.fields[schema.roles.name])) trace.isLost[event] = 1;
     const isId = value !== null && typeof value !== \"object\";
-    if (isId && isWhole(field.kind)) found.push(find(\"number\", value, () => `${field.name} ${value}`));
+    if (isId && isWhole(field.kind)) found.push(find(\"number\", value, () => String(value), field));
     else if (isId && field.kind === \"String\") found.push(find(\"text\", value, () => trace.strings[value]));
     else found.push(find(\"name\", schema.group ?? schema.name, () => schema.group ?? schema.name));
   }
   const order = (a, b) =>
     a.sort - b.sort || (a.sort === 0 ? numberOf(a.key) - numberOf(b.key) : 0) || (a.sort === 1 ? textOrder(a, b) : 0);
-  trace.tracks = tracks.sort((a, b) => order(a, b) || a.at - b.at);
+  trace.tracks = [...tracks.values()].sort((a, b) => order(a, b) || a.at - b.at);
   trace.tracks.forEach((track, at) => { track.at = at; });
   trace.trackOf = new Uint32Array(trace.count);
   for (let event = 0; event < trace.count; event++) trace.trackOf[event] = found[event].at;

@@ -6,6 +6,7 @@ pub mod RecordsPut
 pub mod SchemaRecords
 pub mod EventsSaid
 pub mod FramesTaken
+pub mod TooLong
 pub mod StatesRead
 pub mod ReadLawLemmas
 pub mod AcceptedRecords

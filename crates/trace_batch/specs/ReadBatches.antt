@@ -1,5 +1,6 @@
 -- What is read of a trace as a batch, and what a reader goes on with.
-use Rattle.std.specs.Prelude.{◌≡◌, ◌≢◌, ◌⊎◌, ℕ, ◌+◌, ◌≤◌, true, List, [], ◌∷◌, ◌++◌, length, drop, Option, Some, None}
+use Rattle.std.specs.Prelude.{◌≡◌, ◌≢◌, ◌⊎◌, ℕ, ◌+◌, ◌<◌, ◌≤◌, true, List, [], ◌∷◌, ◌++◌, length, drop}
+use Rattle.std.specs.Prelude.{Option, Some, None}
 use Rattle.std.specs.FinMap as map
 use Rattle.std.specs.List.{AllByRecursion, filter}
 use Rattle.trace_values.specs.Values.{borrowed}
@@ -48,12 +49,27 @@ StartsAt state trace version known start place =
     (StartsWith trace version × (known ≡ []) × (start ≡ empty) × (place ≡ header_length))
     ⊎ (IsHeadless trace × IsState state version known start × (place ≡ 0))
 
--- why no more is read, where no cause is told: nothing is left, a header comes, or an event where there are as many
--- as may be
+-- frames that stand there, none of them a header or an event, lead to a schema that no record can tell
+pub record ReachesTooLong (start : Grammar) (bytes : List ℕ) : Type 0 where
+  pub frames : List Frame
+  pub taken : List ℕ
+  pub rest : List ℕ
+  pub parts : bytes ≡ taken ++ rest
+  pub last : Grammar
+  pub run : IsRun (all_of_kind borrowed frames) start taken frames last
+  pub each : AllByRecursion IsOfState frames
+  pub id : ℕ
+  pub wire_type : WireType
+  pub held : map.get last.wire_types id ≡ Some wire_type
+  pub long : is_entry_too_long (entry_of wire_type) ≡ true
+
+-- why no more is read, where no cause is told: nothing is left, a header comes, an event where there are as many as may
+-- be, or a schema that no record can tell where there is one event at least
 abbrev pub EndsPlainly : ℕ → ℕ → Grammar → List ℕ → Type 0
 EndsPlainly most events last rest = (rest ≡ [])
     ⊎ (((version : ℕ) × (after : List ℕ) × Begins borrowed last rest (Header version) after)
-    ⊎ ((events ≡ most) × (after : List ℕ) × (rest ≡ event_tag ∷ after)))
+    ⊎ (((events ≡ most) × (after : List ℕ) × (rest ≡ event_tag ∷ after))
+    ⊎ ((0 < events) × ReachesTooLong last rest)))
 
 -- and where one is told: the longest run ends there, by this cause
 abbrev pub EndsRead : ℕ → ℕ → Grammar → List ℕ → ℕ → Option Stop → Type 0
@@ -92,25 +108,12 @@ pub record ReadsBatch (state trace : List ℕ) (most : ℕ) (r : ReadBatch) : Ty
   pub starts : StartsAt state trace version known start place
   pub reads : ReadsFrom (drop place trace) (length trace) most version known start r
 
--- frames that stand there lead to a schema that no record can tell
-pub record ReachesTooLong (start : Grammar) (bytes : List ℕ) : Type 0 where
-  pub frames : List Frame
-  pub taken : List ℕ
-  pub rest : List ℕ
-  pub parts : bytes ≡ taken ++ rest
-  pub last : Grammar
-  pub run : IsRun (all_of_kind borrowed frames) start taken frames last
-  pub id : ℕ
-  pub wire_type : WireType
-  pub held : map.get last.wire_types id ≡ Some wire_type
-  pub long : is_entry_too_long (entry_of wire_type) ≡ true
-
 -- the bytes are no state
 abbrev pub IsNoState : List ℕ → Type 0
 IsNoState state = (version : ℕ) (frames : List Frame) (last : Grammar) → IsState state version frames last → ⊥
 
--- neither the trace nor a state says where reading begins; or a schema is too long for a record; or a growth was
--- refused
+-- neither the trace nor a state says where reading begins; or a schema is too long for a record, before any event; or a
+-- growth was refused
 abbrev pub RefusesToRead : List ℕ → List ℕ → ReadError → Type 0
 RefusesToRead state trace errors.NoHeader = IsHeadless trace × (state ≡ [])
 RefusesToRead state trace errors.NoState = IsHeadless trace × (state ≢ []) × IsNoState state

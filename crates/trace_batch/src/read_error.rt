@@ -15,7 +15,7 @@ pub enum ReadError {
     /// The trace begins with no header, and the state is none that was handed out.
     #[error("no state stands there")]
     NoState,
-    /// A schema has more annotations than a record of a batch counts.
+    /// A schema gets more annotations than a record of a batch counts, and no event stands before that.
     #[error("a schema is too long for a record")]
     TooLong,
     /// A growth was refused.

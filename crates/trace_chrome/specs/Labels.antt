@@ -1,5 +1,5 @@
 -- What an event is called, where it lies, and what it is.
-use Rattle.std.specs.Prelude.{◌+◌, ◌*◌, ◌-◌, ◌^◌, ℕ, ℤ, pos, negsuc, Bool, true, false, List, Option, Some, None}
+use Rattle.std.specs.Prelude.{◌+◌, ◌*◌, ◌-◌, ◌^◌, ◌||◌, ℕ, ℤ, pos, negsuc, Bool, true, false, List, Option, Some, None}
 use Rattle.std.specs.Prelude.{is_some, not, codes, option_and_then, if◌then◌else◌, nat_lt, from_bits}
 use Rattle.std.specs.FinMap as map
 use Rattle.std.specs.Ordering.{nat_cmp}
@@ -64,9 +64,13 @@ abbrev pub is_unknown_by : map.FinMap nat_cmp (List ℕ) → Option Value → Bo
 is_unknown_by strings (Some v) = is_unknown strings v
 is_unknown_by strings None = false
 
--- nobody knows on which track the event lies
-abbrev pub lies_nowhere : ShownEvent → Bool
-lies_nowhere e = is_unknown_by e.pools.strings (value_at e (track_of e.entry))
+-- the field at an index has such an id
+abbrev pub is_unknown_at : ShownEvent → Option ℕ → Bool
+is_unknown_at e index = is_unknown_by e.pools.strings (value_at e index)
+
+-- nobody knows on which track the event lies, or what it is called
+abbrev pub is_lost : ShownEvent → Bool
+is_lost e = is_unknown_at e (track_of e.entry) || is_unknown_at e (field_with_role e.entry (codes "name"))
 
 -- a number, where it is not below 0, and else 0
 abbrev pub natural_in : ℤ → ℕ
@@ -118,10 +122,10 @@ what_by e None (Some group) index = ends group
 what_by e None None (Some index) = takes (length_by e index)
 what_by e None None None = happens
 
--- what an event is, by its roles; one whose track nobody knows happens
+-- what an event is, by its roles; one whose track or name nobody knows happens
 abbrev pub what_of : ShownEvent → What
 what_of e =
-    if lies_nowhere e then happens
+    if is_lost e then happens
     else what_by e (note_of e.entry of_schema (codes "begin")) (note_of e.entry of_schema (codes "end"))
     (field_with_role e.entry (codes "duration"))
 

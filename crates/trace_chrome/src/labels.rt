@@ -9,7 +9,7 @@ ghost use Rattle.trace_roles.specs.Units.{nanoseconds_in};
 ghost use Rattle.trace_values.specs.ValueViews.{view};
 ghost use Rattle.trace_events.specs.OwnedEvents.{owned_event};
 ghost use Rattle.trace_chrome.specs.Labels.{text_of, value_at, home, label, track_name, event_name};
-ghost use Rattle.trace_chrome.specs.Labels.{is_unknown, lies_nowhere, natural_in, unit_of, unit_by};
+ghost use Rattle.trace_chrome.specs.Labels.{is_unknown, is_unknown_at, is_lost, natural_in, unit_of, unit_by};
 ghost use Rattle.trace_chrome.specs.Labels.{capped, float_length, length_in, length_by, what_of, end_by};
 ghost use Rattle.trace_chrome.specs.parts.Shapes.{what_view};
 
@@ -35,11 +35,11 @@ pub(crate) enum What<'e> {
     Happens,
 }
 
-/// What an event is, by its roles; one whose track nobody knows happens.
+/// What an event is, by its roles; one whose track or name nobody knows happens.
 pub(crate) fn what_of<'e>(event: &OwnedEvent<'e>) -> What<'e>
     ensures { what_view result ≡ what_of (owned_event event.now) }
 {
-    if lies_nowhere(event) {
+    if is_lost(event) {
         return What::Happens;
     }
     let roles = roles_of(event.schema);
@@ -55,11 +55,19 @@ pub(crate) fn what_of<'e>(event: &OwnedEvent<'e>) -> What<'e>
     }
 }
 
-// Whether nobody knows on which track an event lies.
-fn lies_nowhere(event: &OwnedEvent<'_>) -> bool
-    ensures { result ≡ lies_nowhere (owned_event event.now) }
+// Whether nobody knows on which track an event lies, or what it is called.
+fn is_lost(event: &OwnedEvent<'_>) -> bool
+    ensures { result ≡ is_lost (owned_event event.now) }
 {
-    match value_at(event, roles_of(event.schema).track) {
+    let roles = roles_of(event.schema);
+    is_unknown_at(event, roles.track) || is_unknown_at(event, roles.name)
+}
+
+// Whether the field at an index has an id under which the pool holds nothing.
+fn is_unknown_at(event: &OwnedEvent<'_>, index: Option<usize>) -> bool
+    ensures { result ≡ is_unknown_at (owned_event event.now) index }
+{
+    match value_at(event, index) {
         Some(value) => is_unknown(event.string_pool, value),
         None => false,
     }

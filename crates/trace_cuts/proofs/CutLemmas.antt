@@ -1,12 +1,12 @@
 -- One frame more of what was copied.
 use Rattle.std.proofs.Common.{◌≡◌, ◌<◌, ◌≤◌, ◌-◌, ℕ, Bool, true, false, List, [], ◌∷◌, ◌++◌, length, take, refl}
-use Rattle.std.proofs.Common.{inl, inr, sym, ap, subst, ◌∙◌}
+use Rattle.std.proofs.Common.{inl, inr, not, ◌≢◌, sym, ap, subst, ◌∙◌}
 use Rattle.std.proofs.Common.{append-nil, append_assoc, arith, length-append, Option, Some, None}
 use Rattle.std.specs.Prelude.{if◌then◌else◌, ◌^◌, ◌==◌}
 use Rattle.std.specs.FinMap as map
 use Rattle.std.specs.List.{filter}
 use Rattle.std.specs.Option.{option_map}
-use Rattle.std.proofs.lemmas.Bool.{cases_Bool, eqb-true}
+use Rattle.std.proofs.lemmas.Bool.{cases_Bool, eqb-true, eqb-false, true≢false}
 use Rattle.std.proofs.lemmas.List.{take_at}
 use Rattle.std.proofs.lemmas.List.Elements.{filter-append}
 use Rattle.trace_values.specs.Values.{Kind, Value, owned_reader}
@@ -41,6 +41,9 @@ use Rattle.trace_cuts.specs.Ranges.{is_within, stays, is_copied, is_no_reset, is
 use Rattle.trace_cuts.specs.declared.copying.Next.{Next}
 use Rattle.trace_cuts.specs.declared.copying.Next.TheVariants as next
 use Rattle.trace_cuts.specs.Cuts.{IsCutOfFrames, TellsConflict}
+use Rattle.trace_cuts.specs.Resets.{base_by, base_after, left_by, is_left_out}
+use Rattle.trace_cuts.proofs.ResetLemmas.{HasResets, base_append, left_append, base_stepped, no_reset, no_reset_in_one}
+use Rattle.trace_cuts.proofs.ResetLemmas.{reset_before_event, resets_more}
 use Rattle.trace_cuts.specs.parts.Copies.{before, needed_reset, Copies, HasCopied, IsFresh, CopiesOn, CopiesHidden}
 use Rattle.trace_cuts.specs.parts.Copies.{BeginsEventAt, StaysAsIs, EndsByConflict, CopiesNext, CopiesAll}
 
@@ -86,14 +89,18 @@ pub record Adds (r : TimeRange) (g next : Grammar) (base after : ℕ) (f : Frame
   pub events : (p : Pools) → events_of (grammar_of g.wire_types base) p frames
       ≡ filter (is_event_within r) (events_of g p (f ∷ []))
   pub pools : (p : Pools) → pools_after p frames ≡ pooled p f
+  pub kept_base : base_after base frames ≡ after
+  pub same_base : (left : Bool) → (left ≡ false → base ≡ g.base) → left_by r left f ≡ false → after ≡ next.base
+  pub resets : HasResets base g.base f frames
 
 cut_more :
     (r : TimeRange) {g next : Grammar} {base after : ℕ} {f : Frame} {more : List ℕ} (taken spelled : List ℕ)
     {frames kept : List Frame} → IsRun (all_of_kind owned_reader frames) empty taken frames g →
     IsRun (all_of_kind owned_reader kept) empty spelled kept (grammar_of g.wire_types base) →
     pools_after no_pools kept ≡ pools_after no_pools frames → IsCutOfFrames r frames kept →
+    (base_after 0 frames ≡ g.base) × (base_after 0 kept ≡ base) → (is_left_out r false frames ≡ false → base ≡ g.base) →
     (a : Adds r g next base after f more) → IsCutOfFrames r (frames ++ f ∷ []) (kept ++ a.frames)
-cut_more r {g} {next} {base} {after} {f} {more} taken spelled {frames} {kept} run kept_run pools cut a = record {
+cut_more r {g} {base = base} {f = f} taken spelled {frames} {kept} run kept_run pools cut bases same a = record {
   copied = filter-append is_no_reset kept a.frames
       ∙ ap (λ (l : List Frame). l ++ filter is_no_reset a.frames) cut.copied
       ∙ ap (λ (l : List Frame). filter (is_copied r) frames ++ l) a.same
@@ -116,6 +123,7 @@ cut_more r {g} {next} {base} {after} {f} {more} taken spelled {frames} {kept} ru
       ∙ sym (filter-append (is_event_within r) (events_of empty no_pools frames) (events_of g p (f ∷ [])))
       ∙ ap (filter (is_event_within r))
       (sym (events_append (all_of_kind owned_reader frames) empty no_pools taken frames (f ∷ []) g run));
+  resets = resets_more r frames kept f a.frames cut.copied bases same cut.resets a.resets;
 }
 
 -- one frame more was read, and what is copied of it was
@@ -135,9 +143,13 @@ copies_more r {start} {bytes} {rest} {left} {g} {next} {base} {after} {f} {copie
   copied_is = ap (λ (l : List ℕ). l ++ more) c.copied_is ∙ append_assoc start c.spelled more;
   kept_run = run_more owned_reader empty (grammar_of g.wire_types base) (grammar_of next.wire_types after) c.spelled
       more c.kept a.frames c.kept_run a.run;
-  cut = cut_more r c.taken c.spelled c.run c.kept_run c.pools c.cut a;
+  cut = cut_more r c.taken c.spelled c.run c.kept_run c.pools c.cut (c.base_is, c.kept_base) c.same_base a;
   pools = pools_append no_pools c.kept a.frames ∙ a.pools (pools_after no_pools c.kept)
       ∙ ap (λ (p : Pools). pooled p f) c.pools ∙ sym (pools_append no_pools c.frames (f ∷ []));
+  base_is = base_append 0 c.frames (f ∷ []) ∙ ap (λ (n : ℕ). base_by n f) c.base_is ∙ base_stepped g next f s;
+  kept_base = base_append 0 c.kept a.frames ∙ ap (λ (n : ℕ). base_after n a.frames) c.kept_base ∙ a.kept_base;
+  same_base = λ out.
+      a.same_base (is_left_out r false c.frames) c.same_base (sym (left_append r false c.frames (f ∷ [])) ∙ out);
 }
 
 -- ---- headers and resets
@@ -154,6 +166,9 @@ adds_header r g base version here is = record {
   items = refl;
   events = λ p. refl;
   pools = λ p. refl;
+  kept_base = refl;
+  same_base = λ left same out. refl;
+  resets = λ earlier later time e. no_reset_in_one (Header version) refl earlier later time e;
 }
 
 -- nothing is copied of a reset
@@ -167,6 +182,9 @@ adds_reset r g base time = record {
   items = refl;
   events = λ p. refl;
   pools = λ p. refl;
+  kept_base = refl;
+  same_base = λ left same out. absurd (true≢false out);
+  resets = λ earlier later there e. no_reset earlier later there e;
 }
 
 some_one : {A : Type 0} (x y : A) → Some x ≡ Some y → x ≡ y
@@ -206,6 +224,9 @@ adds_none r g base id time values out = record {
   items = sym (ap (λ (b : Bool). if b then EventItem id time values ∷ [] else []) out);
   events = λ p. events_out r (map.get g.wire_types id) p id time values out;
   pools = λ p. refl;
+  kept_base = refl;
+  same_base = λ left same in_range. absurd (true≢false (sym (ap not out) ∙ in_range));
+  resets = λ earlier later there e. no_reset earlier later there e;
 }
 
 -- one in the range
@@ -239,14 +260,17 @@ adds_same r g id time values here within is = record {
   items = item_in r id time values within;
   events = λ p. events_in r (map.get g.wire_types id) p id time values within;
   pools = λ p. refl;
+  kept_base = refl;
+  same_base = λ left same out. refl;
+  resets = λ earlier later there e. no_reset_in_one (Event id time values) refl earlier later there e;
 }
 
 adds_after_reset :
-    (r : TimeRange) (g : Grammar) (base id time : ℕ) (values : List Value) (here : List ℕ) →
-    is_within r time ≡ true → g.base < 2 ^ 64 → IsFrame owned_reader g here (Event id time values) →
+    (r : TimeRange) (g : Grammar) (base id time : ℕ) {values : List Value} (here : List ℕ) →
+    is_within r time ≡ true → base ≢ g.base → g.base < 2 ^ 64 → IsFrame owned_reader g here (Event id time values) →
     Adds r g (grammar_of g.wire_types time) base time (Event id time values) (reset_bytes g.base ++ here)
 unfolding step
-adds_after_reset r g base id time values here within fits is = record {
+adds_after_reset r g base id time {values} here within other fits is = record {
   frames = Reset g.base ∷ Event id time values ∷ [];
   run = run_more owned_reader (grammar_of g.wire_types base) g (grammar_of g.wire_types time) (reset_bytes g.base) here
       (Reset g.base ∷ []) (Event id time values ∷ [])
@@ -257,6 +281,9 @@ adds_after_reset r g base id time values here within fits is = record {
   items = item_in r id time values within;
   events = λ p. events_in r (map.get g.wire_types id) p id time values within;
   pools = λ p. refl;
+  kept_base = refl;
+  same_base = λ left same out. refl;
+  resets = reset_before_event base g.base id time values other;
 }
 
 -- with a reset where the base time is another
@@ -274,7 +301,7 @@ adds_event r g base id time values here within fits is =
       | inr other ↦ subst
           (λ (l : List ℕ). Adds r g (grammar_of g.wire_types time) base time (Event id time values) (l ++ here))
           (sym (ap (λ (b : Bool). if b then [] else reset_bytes g.base) other))
-          (adds_after_reset r g base id time values here within fits is)
+          (adds_after_reset r g base id time here within (eqb-false base g.base other) fits is)
     ]
 
 -- ---- other frames
@@ -362,6 +389,33 @@ plain_event g p (Header version) is = absurd is
 plain_event g p (Event id time values) is = absurd is
 plain_event g p (Reset time) is = absurd is
 
+plain_base : (base : ℕ) (f : Frame) → IsPlain f → base_by base f ≡ base
+plain_base base (Schema id shape) is = refl
+plain_base base (Strings entries) is = refl
+plain_base base (Stacks entries) is = refl
+plain_base base (Annotations id entries) is = refl
+plain_base base (Header version) is = absurd is
+plain_base base (Event id time values) is = absurd is
+plain_base base (Reset time) is = absurd is
+
+plain_left : (r : TimeRange) (left : Bool) (f : Frame) → IsPlain f → left_by r left f ≡ left
+plain_left r left (Schema id shape) is = refl
+plain_left r left (Strings entries) is = refl
+plain_left r left (Stacks entries) is = refl
+plain_left r left (Annotations id entries) is = refl
+plain_left r left (Header version) is = absurd is
+plain_left r left (Event id time values) is = absurd is
+plain_left r left (Reset time) is = absurd is
+
+plain_no_reset : (f : Frame) → IsPlain f → is_no_reset f ≡ true
+plain_no_reset (Schema id shape) is = refl
+plain_no_reset (Strings entries) is = refl
+plain_no_reset (Stacks entries) is = refl
+plain_no_reset (Annotations id entries) is = refl
+plain_no_reset (Header version) is = absurd is
+plain_no_reset (Event id time values) is = absurd is
+plain_no_reset (Reset time) is = absurd is
+
 adds_plain :
     (r : TimeRange) (g next : Grammar) (base : ℕ) (f : Frame) (here : List ℕ) → IsPlain f →
     IsFrame owned_reader g here f → step g f ≡ Some next → Adds r g next base base f here
@@ -376,6 +430,10 @@ adds_plain r g next base f here p is s = record {
       ap (λ (l : List ShownEvent). l ++ []) (plain_event (grammar_of g.wire_types base) q f p)
       ∙ ap (λ (l : List ShownEvent). filter (is_event_within r) (l ++ [])) (sym (plain_event g q f p));
   pools = λ q. refl;
+  kept_base = plain_base base f p;
+  same_base = λ left same out.
+      same (sym (plain_left r left f p) ∙ out) ∙ (sym (plain_base g.base f p) ∙ base_stepped g next f s);
+  resets = λ earlier later time e. no_reset_in_one f (plain_no_reset f p) earlier later time e;
 }
 
 -- ---- what the code keeps
@@ -640,6 +698,14 @@ copied_none r start bytes s f =
       spelled = [];
       copied_is = sym (append-nil start);
       kept_run = (refl, refl);
-      cut = record { copied = refl; items = refl; events = refl };
+      cut = record {
+        copied = refl;
+        items = refl;
+        events = refl;
+        resets = λ before after time e. no_reset before after time e;
+      };
       pools = refl;
+      base_is = refl;
+      kept_base = refl;
+      same_base = λ out. refl;
     })

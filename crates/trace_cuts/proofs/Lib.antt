@@ -1,2 +1,3 @@
+pub mod ResetLemmas
 pub mod CutLemmas
 pub mod WholeCuts

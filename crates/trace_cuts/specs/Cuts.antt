@@ -11,13 +11,15 @@ use Rattle.dial9_trace_format.specs.Sinks.{events_of}
 use Rattle.trace_cuts.specs.declared.range.TimeRange.{TimeRange}
 use Rattle.trace_cuts.specs.declared.cut.Cut.{Cut}
 use Rattle.trace_cuts.specs.Ranges.{stays, is_copied, is_no_reset, is_event_within}
+use Rattle.trace_cuts.specs.Resets.{NeedsResets}
 
 -- frames that are others, headers among them, but for resets and for the events outside of a range; each event has the
--- schema and the pools that it had
+-- schema and the pools that it had, and no reset is needless
 pub record IsCutOfFrames (r : TimeRange) (frames kept : List Frame) : Type 0 where
   pub copied : filter is_no_reset kept ≡ filter (is_copied r) frames
   pub items : items kept ≡ filter (stays r) (items frames)
   pub events : events_of empty no_pools kept ≡ filter (is_event_within r) (events_of empty no_pools frames)
+  pub resets : NeedsResets r frames kept
 
 -- the bytes spell these frames after a header of this version, to their end
 pub record IsTraceOfFrames (version : ℕ) (bytes : List ℕ) (frames : List Frame) : Type 0 where

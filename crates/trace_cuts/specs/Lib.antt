@@ -1,4 +1,5 @@
 pub mod Ranges
+pub mod Resets
 pub mod Cuts
 pub mod Sent
 pub mod parts

@@ -7,7 +7,7 @@ use Rattle.std.specs.Float.Ieee.{Float, binary64}
 use Rattle.std.specs.Float.Parse.{parse_float}
 use Rattle.std.specs.Prelude.{Some, from_bits}
 use Rattle.ryu.specs.Plain.{IsPlainNumber}
-use Rattle.json.specs.Json.{Json, number, string}
+use Rattle.json.specs.Json.{number, string}
 use Rattle.json.specs.Token.{Token}
 use Rattle.json.specs.Token as token
 use Rattle.json.specs.Tree.{json_tokens}

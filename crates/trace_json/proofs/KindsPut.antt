@@ -2,7 +2,7 @@
 use Rattle.std.proofs.Common.{◌≡◌, ℕ, ℤ, Bool, List, [], ◌∷◌, ◌++◌, sym, ap, subst, refl, Result, OnOk}
 use Rattle.std.specs.FinMap as finmap
 use Rattle.std.specs.Fmt.{decimal, signed_decimal}
-use Rattle.json.specs.Json.{Json, string, number, boolean, null}
+use Rattle.json.specs.Json.{string, number, boolean, null}
 use Rattle.json.specs.Token.{Token}
 use Rattle.json.specs.Token as token
 use Rattle.json.specs.Tree.{json_tokens}

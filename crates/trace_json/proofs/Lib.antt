@@ -2,5 +2,7 @@ pub mod Tokens
 pub mod OneMore
 pub mod KindsPut
 pub mod Floats
+pub mod Grown
 pub mod LineLemmas
+pub mod SentText
 pub mod Shallow

@@ -15,17 +15,20 @@ use Rattle.trace_json.specs.Put.{Stands}
 use Rattle.trace_json.specs.parts.Put.{StandAll, member_tokens}
 use Rattle.trace_json.proofs.Tokens.{one_more}
 
-items_more :
+-- one item more
+pub items_more :
     (p : Pools) (vs : List Value) (v : Value) (js : List Json) (j : Json) → AreItemsJson p (values_to_items vs) js →
     IsValueJson p v j → AreItemsJson p (values_to_items (vs ++ v ∷ [])) (js ++ j ∷ [])
 items_more p [] v js j none is = (j, [], ap (λ (l : List Json). l ++ j ∷ []) none, is, refl)
 items_more p (u ∷ us) v js j all is =
     (all.0, all.1 ++ j ∷ [], ap (λ (l : List Json). l ++ j ∷ []) all.2, all.3, items_more p us v all.1 j all.4 is)
 
+-- what a pair of a map is as JSON
 abbrev pub IsPairJson : Pools → Value × Value → Json → Type 0
 IsPairJson p x = IsPairOf (IsValueJson p x.0) (IsValueJson p x.1)
 
-pairs_more :
+-- one pair more
+pub pairs_more :
     (p : Pools) (ps : List (Value × Value)) (x : Value × Value) (js : List Json) (j : Json) →
     ArePairsJson p (values_to_pairs ps) js → IsPairJson p x j →
     ArePairsJson p (values_to_pairs (ps ++ x ∷ [])) (js ++ j ∷ [])
@@ -37,7 +40,8 @@ drop_two : (n : ℕ) (xs : List (List ℕ)) → drop (suc n) xs ≡ drop n (drop
 drop_two n [] = drop-nil (suc n) ∙ sym (ap (drop n) (drop-nil 1) ∙ drop-nil n)
 drop_two n (x ∷ xs) = refl
 
-fields_more :
+-- one field more
+pub fields_more :
     (p : Pools) (names : List (List ℕ)) (vs : List Value) (v : Value) (ms : List (List ℕ × Json)) (name : List ℕ)
     (j : Json) →
     name ≡ get_or (drop (length vs) names) 0 [] → AreFieldsJson p names vs ms → IsValueJson p v j →

@@ -1,6 +1,6 @@
 -- How deep the JSON of a value nests, and so that of an event.
-use Rattle.std.proofs.Common.{◌≡◌, ◌≤◌, ℕ, ◌+◌, ◌*◌, max, Bool, true, false, List, [], ◌∷◌, ◌++◌, Option, Some, None}
-use Rattle.std.proofs.Common.{map as list_map, sym, ap, subst, ◌∙◌, arith, inl, inr, ◌⊎◌, drop, if◌then◌else◌}
+use Rattle.std.proofs.Common.{◌≡◌, ◌≤◌, ℕ, ◌+◌, ◌*◌, Bool, true, false, List, [], ◌∷◌, Option, Some, None}
+use Rattle.std.proofs.Common.{map as list_map, sym, ap, subst, arith, inl, inr, drop, if◌then◌else◌}
 use Rattle.std.specs.List.{All}
 use Rattle.std.specs.FinMap as finmap
 use Rattle.std.specs.Str.{is_utf8}
@@ -21,13 +21,13 @@ use Rattle.trace_wire.specs.Schemas.{WireType, types_of}
 use Rattle.trace_wire.specs.WireTypes.{entry_of}
 use Rattle.trace_wire.specs.Frames.{Grammar, Frame, IsFrame}
 use Rattle.trace_wire.specs.Frames as frames
-use Rattle.trace_wire.specs.Runs.{Pools, IsRun, step, stepped, pooled}
-use Rattle.dial9_trace_format.specs.ShownEvents.{ShownEvent, names_of}
+use Rattle.trace_wire.specs.Runs.{Pools, IsRun, stepped, pooled}
+use Rattle.dial9_trace_format.specs.ShownEvents.{ShownEvent}
 use Rattle.dial9_trace_format.specs.Sinks.{events_of, event_of, event_by}
-use Rattle.trace_json.specs.EventJson.{items_of, members_of, list_json, object_json, bytes_json, text_json}
-use Rattle.trace_json.specs.EventJson.{text_pair_json, address_json, stack_json, pooled_text_json, pooled_stack_json}
+use Rattle.trace_json.specs.EventJson.{items_of, members_of, list_json, object_json, bytes_json}
+use Rattle.trace_json.specs.EventJson.{text_pair_json, address_json, pooled_text_json, pooled_stack_json}
 use Rattle.trace_json.specs.EventJson.{special_text, IsNumeralOf, IsFloatJson, IsValueJson, AreItemsJson}
-use Rattle.trace_json.specs.EventJson.{ArePairsJson, AreFieldsJson, event_json, IsEventJson}
+use Rattle.trace_json.specs.EventJson.{ArePairsJson, AreFieldsJson, event_json}
 use Rattle.trace_json.specs.Laws.{IsShallow, RunIsShallow}
 
 along : (j i : Json) (n : ℕ) → j ≡ i → depth i ≤ n → depth j ≤ n

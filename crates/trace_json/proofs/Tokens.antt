@@ -7,19 +7,20 @@ use Rattle.std.proofs.lemmas.List.Folds.{flat_map-map}
 use Rattle.json.specs.Json.{Json}
 use Rattle.json.specs.Token.{Token, begin_object, end_object, begin_array, end_array}
 use Rattle.json.specs.Tree.{json_tokens, items_tokens, members_tokens}
-use Rattle.trace_json.specs.EventJson.{items_of, members_of, list_json, object_json, pair_json, IsPairOf, event_json}
+use Rattle.trace_json.specs.EventJson.{items_of, members_of, list_json, object_json, pair_json, IsPairOf}
 use Rattle.trace_json.specs.Put.{Stands}
-use Rattle.trace_json.specs.parts.Put.{StandAll, member_tokens, head_tokens}
+use Rattle.trace_json.specs.parts.Put.{StandAll, member_tokens}
 
 -- ---- lists and objects, by their parts
 
-items_tokens_of : (js : List Json) → items_tokens (items_of js) ≡ flat_map json_tokens js ++ end_array ∷ []
+pub items_tokens_of : (js : List Json) → items_tokens (items_of js) ≡ flat_map json_tokens js ++ end_array ∷ []
 items_tokens_of [] = refl
 items_tokens_of (j ∷ js) =
     ap (λ (t : List Token). json_tokens j ++ t) (items_tokens_of js)
     ∙ sym (append_assoc (json_tokens j) (flat_map json_tokens js) (end_array ∷ []))
 
-members_tokens_of :
+-- the tokens of members that are pairs of a name and a JSON
+pub members_tokens_of :
     (ms : List (List ℕ × Json)) → members_tokens (members_of ms) ≡ flat_map member_tokens ms ++ end_object ∷ []
 members_tokens_of [] = refl
 members_tokens_of (m ∷ ms) =
@@ -125,18 +126,6 @@ pub pair_closed :
 pair_closed is_key is_value old {one} {new} a key value e =
     pair_stands {E = ℕ} (Ok tt) is_key is_value old new a key value e
 
--- an event was put from its name to its last brace
-pub event_stands :
-    {E : Type 0} (r : Result (Unit {0}) E) (is : Json → Type 0) (name : List ℕ) (time : ℕ)
-    (old : List Token) {one : List Token} (two new : List Token) →
-    one ≡ old ++ head_tokens name time → Stands is one two → OnOk r (new ≡ two ++ end_object ∷ []) →
-    OnOk r (Stands (λ j. (fields : Json) × is fields × (j ≡ event_json name time fields)) old new)
-event_stands r is name time old {one} two new a s e =
-    one_stands r (λ j. (fields : Json) × is fields × (j ≡ event_json name time fields))
-    (event_json name time s.json) old new
-    (s.json, s.is_so, refl)
-    (enclosed r old new (head_tokens name time) (json_tokens s.json) (end_object ∷ []) a s.tokens e)
-
 -- ---- tokens put one by one
 
 -- three tokens, put one after another
@@ -156,19 +145,20 @@ put_four (Ok u) {a} {b} d {old = old} new same p e =
     rw (e, p.third, p.second, p.first, same) (simp append_assoc)
 put_four (Err x) d new same p e = tt
 
--- two tokens, put one after another
-pub record TwoPut (d x : Token) (three five : List Token) : Type 0 where
-  pub four : List Token
-  pub fourth : four ≡ three ++ d ∷ []
-  pub fifth : five ≡ four ++ x ∷ []
+-- five tokens were put
+pub put_five :
+    {E : Type 0} (r : Result (Unit {0}) E) {a b c : Token} (d x : Token) {old three four : List Token}
+    (new : List Token) → ThreePut a b c old three → four ≡ three ++ d ∷ [] → OnOk r (new ≡ four ++ x ∷ []) →
+    OnOk r (new ≡ old ++ a ∷ b ∷ c ∷ d ∷ x ∷ [])
+put_five (Ok u) d x new p q e = rw (e, q, p.third, p.second, p.first) (simp append_assoc)
+put_five (Err z) d x new p q e = tt
 
--- six tokens were put
-pub put_six :
-    {E : Type 0} (r : Result (Unit {0}) E) {a b c d x : Token} (y : Token) {old three five : List Token}
-    (new : List Token) → ThreePut a b c old three → TwoPut d x three five → OnOk r (new ≡ five ++ y ∷ []) →
-    OnOk r (new ≡ old ++ a ∷ b ∷ c ∷ d ∷ x ∷ y ∷ [])
-put_six (Ok u) y new p q e = rw (e, q.fifth, q.fourth, p.third, p.second, p.first) (simp append_assoc)
-put_six (Err z) y new p more e = tt
+-- tokens after one, and others after these
+pub put_after_one :
+    {E : Type 0} (r : Result (Unit {0}) E) (a : Token) (b c old : List Token) {one two : List Token}
+    (new : List Token) → one ≡ old ++ a ∷ [] → two ≡ one ++ b → OnOk r (new ≡ two ++ c) →
+    OnOk r (new ≡ old ++ a ∷ (b ++ c))
+put_after_one r a b c old new first second last = enclosed r old new (a ∷ []) b c first second last
 
 -- ---- things written in a loop
 

@@ -1,10 +1,11 @@
 -- What JSON an event is.
-use Rattle.std.specs.Prelude.{◌≡◌, ℕ, ◌==◌, Bool, true, false, if◌then◌else◌, List, [], ◌∷◌, ◌++◌, drop, get_or}
+use Rattle.std.specs.Prelude.{◌≡◌, ℕ, ◌==◌, if◌then◌else◌, List, [], ◌∷◌, ◌++◌, drop, get_or}
 use Rattle.std.specs.Prelude.{map as list_map, Option, Some, None, codes, from_bits}
+use Rattle.std.specs.Borrow.{Bor}
 use Rattle.std.specs.Bool.{MatchBool}
 use Rattle.std.specs.FinMap as finmap
 use Rattle.std.specs.Float.{float_is_finite}
-use Rattle.std.specs.Float.Ieee.{Float, binary64}
+use Rattle.std.specs.Float.Ieee.{binary64}
 use Rattle.std.specs.Float.Parse.{parse_float}
 use Rattle.std.specs.Fmt.{decimal, signed_decimal}
 use Rattle.std.specs.Str.{is_utf8}
@@ -155,12 +156,26 @@ IsFieldsJson e j =
     (fields : List (List ℕ × Json)) × AreFieldsJson e.pools (names_of e.entry.fields) e.values fields
     × (j ≡ object_json fields)
 
--- an object of a name, a time in nanoseconds, and fields
+-- a name, a time in nanoseconds, and fields
+abbrev pub event_members : List ℕ → ℕ → Json → List (List ℕ × Json)
+event_members name time fields =
+    (codes "event", string name) ∷ (codes "timestamp_ns", number (decimal time)) ∷ (codes "fields", fields) ∷ []
+
+-- an object of these
 abbrev pub event_json : List ℕ → ℕ → Json → Json
-event_json name time fields =
-    object_json
-    ((codes "event", string name) ∷ (codes "timestamp_ns", number (decimal time)) ∷ (codes "fields", fields) ∷ [])
+event_json name time fields = object_json (event_members name time fields)
 
 -- an event
 abbrev pub IsEventJson : ShownEvent → Json → Type 0
 IsEventJson e j = (fields : Json) × IsFieldsJson e fields × (j ≡ event_json e.name e.time fields)
+
+-- the name of a file, where one is told
+abbrev pub file_members : Option (Bor (List ℕ)) → List (List ℕ × Json)
+file_members None = []
+file_members (Some name) = (codes "file", string name.now) ∷ []
+
+-- an event, the name of its file before its other members where one is told
+abbrev pub IsFiledJson : Option (Bor (List ℕ)) → ShownEvent → Json → Type 0
+IsFiledJson file e j =
+    (fields : Json) × IsFieldsJson e fields
+    × (j ≡ object_json (file_members file ++ event_members e.name e.time fields))

@@ -2,4 +2,5 @@ pub mod EventJson
 pub mod Put
 pub mod Lines
 pub mod Laws
+pub mod Sending
 pub mod parts

@@ -2,9 +2,12 @@
 #![tactic(auto)]
 
 mod fields;
+pub mod growing;
 pub mod laws;
 pub mod leaves;
 pub mod line;
 mod parts;
+pub mod sending;
 mod texts;
 pub mod value;
+mod weights;

@@ -10,8 +10,9 @@ ghost use Rattle.dial9_trace_format.specs.parts.Resolving.{as_pools};
 ghost use Rattle.trace_json.specs.EventJson.{IsValueJson, AreItemsJson, ArePairsJson};
 ghost use Rattle.trace_json.specs.Lines.{IsTextOf};
 ghost use Rattle.trace_json.specs.Put.{PutsOne};
-ghost use Rattle.trace_json.specs.parts.Put.{PutsAll};
+ghost use Rattle.trace_json.specs.parts.Growing.{PutsAllBy, PutsOneBy};
 
+use crate::growing::{GrowingJson, Mark};
 use json::Writer;
 use std::alloc::{AllocError, Global};
 use trace_events::value::{Held, TraceValue};
@@ -37,6 +38,10 @@ pub trait JsonValue: TraceValue {
           stacks = stacks.now;
         } (Self.value self.now)) out.old out.new result }
         ensures before { out.new.before ≡ out.old.before };
+
+    /// About how many bytes its text takes, where it holds no others. (Any answer is right: by it a line is sent as it
+    /// grows, before it takes too much memory.)
+    fn weight(&self, strings: &StringPool, stacks: &StackPool) -> usize;
 }
 
 /// The text of a value, with what the pools hold in place of ids, with no space. `AllocError` where a growth was
@@ -58,99 +63,94 @@ pub fn value_text<V: JsonValue>(
 
 /// Writes a value, with what the pools hold in place of ids.
 #[cycle(value)]
-pub(crate) fn put_value<V: JsonValue>(
+pub(crate) fn put_value<V: JsonValue, L: GrowingJson>(
     alloc: Global,
-    out: &mut Writer,
+    out: &mut L,
     strings: &StringPool,
     stacks: &StackPool,
     value: &V,
-) -> Result<(), AllocError>
-    ensures tokens { PutsOne (IsValueJson (as_pools strings.now stacks.now) (V.value value.now))
-        out.old out.new result }
-    ensures before { out.new.before ≡ out.old.before }
+) -> Result<(), L::Fault>
+    ensures { PutsOneBy L.grows L.fails
+        (IsValueJson (as_pools strings.now stacks.now) (V.value value.now)) out.old out.new result }
 {
     match value.held() {
         Held::Items(items) => put_list(alloc, out, strings, stacks, items),
         Held::Pairs(pairs) => put_map(alloc, out, strings, stacks, pairs),
-        Held::Nothing => value.put_flat(alloc, out, strings, stacks),
+        Held::Nothing => out.put_flat(alloc, strings, stacks, value),
     }
 }
 
 // Writes a list of items.
 #[cycle(value)]
-fn put_list<V: JsonValue>(
+fn put_list<V: JsonValue, L: GrowingJson>(
     alloc: Global,
-    out: &mut Writer,
+    out: &mut L,
     strings: &StringPool,
     stacks: &StackPool,
     items: &[V],
-) -> Result<(), AllocError>
-    ensures tokens { PutsOne (IsValueJson (as_pools strings.now stacks.now)
+) -> Result<(), L::Fault>
+    ensures { PutsOneBy L.grows L.fails (IsValueJson (as_pools strings.now stacks.now)
         (list (values_to_items (list_map V.value items.now)))) out.old out.new result }
-    ensures before { out.new.before ≡ out.old.before }
 {
-    out.begin_array()?;
-    put_items(alloc, out, strings, stacks, items)?;
-    out.end_array()
+    tri!(out.put_mark(Mark::BeginArray));
+    tri!(put_items(alloc, out, strings, stacks, items));
+    out.put_mark(Mark::EndArray)
 }
 
 // Writes a list of pairs.
 #[cycle(value)]
-fn put_map<V: JsonValue>(
+fn put_map<V: JsonValue, L: GrowingJson>(
     alloc: Global,
-    out: &mut Writer,
+    out: &mut L,
     strings: &StringPool,
     stacks: &StackPool,
     pairs: &[(V, V)],
-) -> Result<(), AllocError>
-    ensures tokens { PutsOne (IsValueJson (as_pools strings.now stacks.now)
+) -> Result<(), L::Fault>
+    ensures { PutsOneBy L.grows L.fails (IsValueJson (as_pools strings.now stacks.now)
         (map (values_to_pairs (list_map (λ p. (V.value p.0, V.value p.1)) pairs.now)))) out.old
         out.new result }
-    ensures before { out.new.before ≡ out.old.before }
 {
-    out.begin_array()?;
-    put_pairs(alloc, out, strings, stacks, pairs)?;
-    out.end_array()
+    tri!(out.put_mark(Mark::BeginArray));
+    tri!(put_pairs(alloc, out, strings, stacks, pairs));
+    out.put_mark(Mark::EndArray)
 }
 
 // Writes items, one after another.
 #[cycle(value)]
-fn put_items<V: JsonValue>(
+fn put_items<V: JsonValue, L: GrowingJson>(
     alloc: Global,
-    out: &mut Writer,
+    out: &mut L,
     strings: &StringPool,
     stacks: &StackPool,
     items: &[V],
-) -> Result<(), AllocError>
-    ensures tokens { PutsAll json_tokens (AreItemsJson (as_pools strings.now stacks.now)
+) -> Result<(), L::Fault>
+    ensures { PutsAllBy L.grows L.fails json_tokens (AreItemsJson (as_pools strings.now stacks.now)
         (values_to_items (list_map V.value items.now))) out.old out.new result }
-    ensures before { out.new.before ≡ out.old.before }
 {
     'items: for item in items {
-        put_value(alloc, out, strings, stacks, item)?;
+        tri!(put_value(alloc, out, strings, stacks, item));
     }
     Ok(())
 }
 
 // Writes pairs, one after another: each a list of both.
 #[cycle(value)]
-fn put_pairs<V: JsonValue>(
+fn put_pairs<V: JsonValue, L: GrowingJson>(
     alloc: Global,
-    out: &mut Writer,
+    out: &mut L,
     strings: &StringPool,
     stacks: &StackPool,
     pairs: &[(V, V)],
-) -> Result<(), AllocError>
-    ensures tokens { PutsAll json_tokens (ArePairsJson (as_pools strings.now stacks.now)
+) -> Result<(), L::Fault>
+    ensures { PutsAllBy L.grows L.fails json_tokens (ArePairsJson (as_pools strings.now stacks.now)
         (values_to_pairs (list_map (λ p. (V.value p.0, V.value p.1)) pairs.now))) out.old out.new
         result }
-    ensures before { out.new.before ≡ out.old.before }
 {
     'pairs: for pair in pairs {
-        tri!(out.begin_array());
+        tri!(out.put_mark(Mark::BeginArray));
         tri!(put_value(alloc, out, strings, stacks, &pair.0));
         tri!(put_value(alloc, out, strings, stacks, &pair.1));
-        tri!(out.end_array());
+        tri!(out.put_mark(Mark::EndArray));
     }
     Ok(())
 }

@@ -3,13 +3,11 @@ use Rattle.std.proofs.Common.{◌≡◌, ℕ, List, [], ◌∷◌, ◌++◌, Res
 use Rattle.std.specs.Result.{OnOk}
 use Rattle.std.specs.FinMap as finmap
 use Rattle.std.specs.Ordering.{nat_cmp}
-use Rattle.trace_values.specs.ValueViews.{views}
 use Rattle.trace_wire.specs.Schemas.{WireType}
 use Rattle.trace_wire.specs.Runs.{Item, EventItem, SchemaItem, StringsItem, StacksItem, AnnotationsItem}
 use Rattle.dial9_trace_format.specs.ShownEvents.{ShownEvent}
 use Rattle.dial9_trace_format.specs.Feeding.{FeedState}
 use Rattle.dial9_trace_format.specs.ResolvedFrames.{event_beside}
-use Rattle.trace_events.specs.declared.event.OwnedEvent.{OwnedEvent}
 use Rattle.trace_events.specs.OwnedEvents.{events_in}
 use Rattle.trace_lines.specs.Lines.{line}
 use Rattle.trace_lines.specs.ResolvedLines.{resolved_line, event_lines}
@@ -21,17 +19,6 @@ beside s (SchemaItem entry) = refl
 beside s (StringsItem entries) = refl
 beside s (StacksItem entries) = refl
 beside s (AnnotationsItem id entries) = refl
-
--- an event whose values own their memory, by its name
-abbrev pub named : OwnedEvent → List ℕ → ShownEvent
-named e name = record {
-  id = e.type_id.0;
-  name = name;
-  time = e.timestamp_ns;
-  values = views e.values.now;
-  entry = e.schema.now;
-  pools = record { strings = e.string_pool.now; stacks = e.stack_pool.now };
-}
 
 -- the line of the event that a frame is, by what a decoder knows
 pub frame_line :

@@ -34,7 +34,8 @@ use Rattle.trace_lines.specs.declared.sent_lines.LineFault.TheVariants.{OutOfMem
 use Rattle.trace_lines.specs.parts.LineLaws.{goes_after, line_joins}
 use Rattle.trace_lines.specs.parts.PieceDumps.{AreNextLines, ArePieceLines, IsFed, IsLeft, LinesBegin, LinesCome}
 use Rattle.trace_lines.specs.parts.PieceDumps.{SendsPiece}
-use Rattle.trace_lines.specs.parts.SentLines.{GoOut, Leaves, LineGrows, unsent}
+use Rattle.trace_lines.specs.SentLines.{Leaves}
+use Rattle.trace_lines.specs.parts.SentLines.{GoOut, LineGrows, unsent}
 use Rattle.trace_lines.specs.parts.SentPieces.{GathersSent, HoldsNext, PutsEvent, PutsNext}
 use Rattle.trace_lines.proofs.PieceLines.{known_come}
 use Rattle.trace_lines.proofs.PiecesGathered.{Gathered, front_so_far, gathered_after, gathered_begins, last_one}

@@ -6,11 +6,9 @@ use Rattle.std.specs.declared.io.ErrorKind.{ErrorKind}
 use Rattle.trace_values.specs.Sending.{Account, TookOnly}
 use Rattle.trace_values.proofs.SendingLemmas.{TookOnly-none, TookOnly-join}
 use Rattle.trace_lines.specs.Dumps.{PrintsUpToFault}
-use Rattle.dial9_trace_format.specs.ShownEvents.{ShownEvent}
-use Rattle.trace_lines.specs.Lines.{line}
-use Rattle.trace_lines.specs.ResolvedLines.{resolved_line}
-use Rattle.trace_lines.specs.parts.SentLines.{Leaves, BeginsWith, GoThrough, GoOut, LineGrows, HoldsEvent, unsent}
-use Rattle.trace_lines.specs.parts.LineLaws.{line_joins}
+use Rattle.trace_lines.specs.SentLines.{Leaves, BeginsWith, GoThrough}
+use Rattle.trace_lines.specs.parts.SentLines.{GoOut, LineGrows, unsent}
+use Rattle.trace_lines.specs.parts.LineLaws.{line_joins, goes_after}
 use Rattle.trace_lines.specs.declared.sent_lines.Lines.{Lines}
 use Rattle.trace_lines.specs.declared.sent_lines.LineFault.{LineFault}
 use Rattle.trace_lines.specs.declared.sent_lines.LineFault.TheVariants.{OutOfMemory, Unsent}
@@ -92,50 +90,72 @@ pub put_and_sent :
 put_and_sent told s m t text r first second =
     subst (λ (x : List ℕ). LineGrows told s x r t) (append-nil text) (line_joins told s m t text [] r first second)
 
--- ---- the line of an event
+-- ---- a text after what is held
 
--- the line of an event was not made: what was held before stays, or it went to the writer in part
-pub hold_fails :
-    {W : Type 0} (told : W → Account) (s m : Lines W) (l : String Global) {x e : ShownEvent} (f : LineFault) →
-    string_bytes l ≡ [] → x ≡ e → LineGrows told (record s { line = l }) (line (resolved_line x)) (Err f) m →
-    HoldsEvent told s e (Err f) m
-hold_fails {W} told s m l {x} {e} f none is went =
+-- a text was not made: what was held before stays, or it went to the writer in part
+pub text_fails :
+    {W : Type 0} (told : W → Account) (s m : Lines W) (l : String Global) (text : List ℕ) (f : LineFault) →
+    string_bytes l ≡ [] → LineGrows told (record s { line = l }) text (Err f) m →
+    GoOut told s m (string_bytes s.held ++ text) (string_bytes m.held) (Err f)
+text_fails told s m l text f none went =
     let held = string_bytes m.held in
     let a = told s.out.now in
     let b = told m.out.now in
     let before = string_bytes s.held in
-    let bytes = not_appended a b (before ++ line (resolved_line x)) (unsent m) held held f
-    (from_nothing a b before (line (resolved_line x)) (unsent m) held (Err f) none went.bytes) in
-    subst (λ (y : ShownEvent). HoldsEvent told s y (Err f) m) is
-    (record { same_writer = went.same_writer; bytes = bytes })
-
--- the line of an event was made
-pub line_made :
-    {W : Type 0} (told : W → Account) (s m : Lines W) (l : String Global) {x e : ShownEvent} →
-    string_bytes l ≡ [] → x ≡ e → LineGrows told (record s { line = l }) (line (resolved_line x)) (Ok tt) m →
-    GoOut told s m (string_bytes s.held ++ line (resolved_line e)) (unsent m) (Ok tt)
-line_made {W} told s m l {x} {e} none is went =
-    let a = told s.out.now in
-    let b = told m.out.now in
-    let before = string_bytes s.held in
-    subst (λ (y : ShownEvent). GoOut told s m (before ++ line (resolved_line y)) (unsent m) (Ok tt)) is
-    (record {
+    record {
       same_writer = went.same_writer;
-      bytes = from_nothing a b before (line (resolved_line x)) (unsent m) (string_bytes m.held) (Ok tt) none went.bytes;
-    })
+      bytes = not_appended a b (before ++ text) (unsent m) held held f
+          (from_nothing a b before text (unsent m) held (Err f) none went.bytes);
+    }
+
+-- a text was made
+pub text_made :
+    {W : Type 0} (told : W → Account) (s m : Lines W) (l : String Global) (text : List ℕ) → string_bytes l ≡ [] →
+    LineGrows told (record s { line = l }) text (Ok tt) m →
+    GoOut told s m (string_bytes s.held ++ text) (unsent m) (Ok tt)
+text_made told s m l text none went = record {
+  same_writer = went.same_writer;
+  bytes = from_nothing (told s.out.now) (told m.out.now) (string_bytes s.held) text (unsent m) (string_bytes m.held)
+      (Ok tt) none went.bytes;
+}
 
 -- and then held
-pub event_held :
-    {W : Type 0} (told : W → Account) (s m : Lines W) (h : String Global) (e : ShownEvent) →
-    GoOut told s m (string_bytes s.held ++ line (resolved_line e)) (unsent m) (Ok tt) →
-    string_bytes h ≡ unsent m → HoldsEvent told s e (Ok tt) (record m { held = h })
-event_held told s m h e made is =
+pub text_held :
+    {W : Type 0} (told : W → Account) (s m : Lines W) (h : String Global) (text : List ℕ) →
+    GoOut told s m (string_bytes s.held ++ text) (unsent m) (Ok tt) → string_bytes h ≡ unsent m →
+    GoOut told s (record m { held = h }) (string_bytes s.held ++ text) (string_bytes h) (Ok tt)
+text_held told s m h text made is =
     record { same_writer = made.same_writer; bytes = line_held is made.bytes }
 
 -- or not, where a growth was refused
-pub event_not_held :
-    {W : Type 0} (told : W → Account) (s m : Lines W) (h : String Global) (e : ShownEvent) →
-    GoOut told s m (string_bytes s.held ++ line (resolved_line e)) (unsent m) (Ok tt) →
-    string_bytes h ≡ string_bytes m.held → HoldsEvent told s e (Err OutOfMemory) (record m { held = h })
-event_not_held told s m h e made is =
+pub text_not_held :
+    {W : Type 0} (told : W → Account) (s m : Lines W) (h : String Global) (text : List ℕ) →
+    GoOut told s m (string_bytes s.held ++ text) (unsent m) (Ok tt) → string_bytes h ≡ string_bytes m.held →
+    GoOut told s (record m { held = h }) (string_bytes s.held ++ text) (string_bytes h) (Err OutOfMemory)
+text_not_held told s m h text made is =
     record { same_writer = made.same_writer; bytes = line_not_held (string_bytes m.line) is made.bytes }
+
+-- ---- lines that go out later
+
+-- what is held after a text goes out
+pub held_goes_on :
+    {a b : Account} (c : Account) {whole middle : List ℕ} (rest : List ℕ) (r : Result (Unit {0}) LineFault) →
+    Leaves a b whole middle → GoThrough b c (middle ++ []) rest rest r → GoThrough a c whole rest rest r
+held_goes_on {a} {b} c {whole} {middle} rest r first second =
+    subst (λ (x : List ℕ). GoThrough a c x rest rest r) (append-nil whole)
+    (goes_after c whole [] [] rest rest r
+    (subst (λ (x : List ℕ). Leaves a b x middle) (sym (append-nil whole)) first) second)
+
+-- nothing is left
+pub held_sent :
+    {a b : Account} {none : List ℕ} (held : List ℕ) → TookOnly a b held [] → none ≡ [] →
+    Leaves a b (held ++ []) none
+held_sent held took n =
+    record { sent = held; took = took; is = ap (λ (x : List ℕ). held ++ x) (sym n) }
+
+-- a fault
+pub held_unsent :
+    {a b : Account} {kind : ErrorKind} (n : ℕ) (held : List ℕ) → TookOnly a b (take n held) (kind ∷ []) →
+    PrintsUpToFault (BeginsWith (held ++ [])) a b
+held_unsent {kind = kind} n held took =
+    (take n held, (drop n held, append-nil held ∙ sym (take-append-drop n held)), kind ∷ [], omega arith, took)

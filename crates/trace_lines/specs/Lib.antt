@@ -4,4 +4,5 @@ pub mod ResolvedLines
 pub mod Dumps
 pub mod PieceDumps
 pub mod Program
+pub mod SentLines
 pub mod parts

@@ -1,13 +1,17 @@
 //! Lines that are held before they are sent, and sent as they grow.
 
-ghost use Rattle.std.specs.Prelude.{◌≡◌, []};
+ghost use Rattle.std.specs.Prelude.{◌≡◌, [], ◌++◌, string_bytes};
 ghost use Rattle.dial9_trace_format.specs.ShownEvents.{shown_event};
+ghost use Rattle.trace_lines.specs.Lines.{line};
+ghost use Rattle.trace_lines.specs.ResolvedLines.{resolved_line};
 ghost use Rattle.trace_lines.specs.declared.sent_lines.LineFault.TheVariants.{OutOfMemory};
-ghost use Rattle.trace_lines.specs.parts.SentLines.{LineGrows, HoldsEvent, takes_event};
+ghost use Rattle.trace_lines.specs.parts.EventLines.{event_as};
+ghost use Rattle.trace_lines.specs.parts.SentLines.{GoOut, LineGrows, HoldsEvent, takes_event};
 ghost use Rattle.trace_lines.specs.parts.LineLaws.{line_empty, line_joins, line_stops};
 
 use crate::growing::{GrowingLine, LinePart};
-use crate::resolved::{line_event, push_event_in_full};
+use crate::resolved::{LineEvent, line_event, push_event_in_full};
+use crate::value::LineValue;
 use dial9_trace_format::decoder::{EventSink, RawEvent};
 use std::alloc::AllocError;
 use trace_values::leb128::{TraceWrite, send_all};
@@ -16,11 +20,11 @@ use trace_values::leb128::{TraceWrite, send_all};
 pub(crate) const ENOUGH: usize = 65_536;
 
 /// Why a line does not grow.
-#[derive(Clone, Copy)]
-pub(crate) enum LineFault {
+#[derive(Clone, Copy, Debug, PartialEq, Eq)]
+pub enum LineFault {
     /// A growth was refused.
     OutOfMemory,
-    /// The writer failed.
+    /// The writer failed. It knows by which error.
     Unsent,
 }
 
@@ -106,8 +110,22 @@ impl<'w, W: TraceWrite> Lines<'w, W> {
     fn hold(&mut self, event: &RawEvent<'_, '_>) -> Result<(), LineFault>
         ensures { HoldsEvent W.told self.old (shown_event event.now) result self.new }
     {
+        self.hold_after("", &line_event(event))
+    }
+
+    /// Holds a text and then the line of the event, resolved.
+    pub(crate) fn hold_after<V: LineValue>(
+        &mut self,
+        start: &str,
+        event: &LineEvent<'_, V>,
+    ) -> Result<(), LineFault>
+        ensures { GoOut W.told self.old self.new (string_bytes self.old.held
+            ++ (start.now ++ line (resolved_line (event_as V.value event.now))))
+            (string_bytes self.new.held) result }
+    {
         self.line.clear();
-        push_event_in_full(self, &line_event(event))?;
+        self.put(start)?;
+        push_event_in_full(self, event)?;
         self.held.push_str(&self.line)?;
         Ok(())
     }

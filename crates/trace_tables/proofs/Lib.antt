@@ -4,4 +4,5 @@ pub mod MapLemmas
 pub mod DenseLemmas
 pub mod PlacedLemmas
 pub mod TreeLemmas
+pub mod RunLemmas
 pub mod HashedLemmas

@@ -1,6 +1,7 @@
 //! Worked examples of the format.
 
 mod ample;
+mod bad_pairs;
 mod calls;
 mod checks;
 mod compact_frames;

@@ -1,3 +1,4 @@
 pub mod TwoCalls
 pub mod CountedEvents
 pub mod GoingOnAfterTorn
+pub mod HalvesLemmas

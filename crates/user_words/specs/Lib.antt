@@ -3,3 +3,4 @@ pub mod Ticks
 pub mod Tallies
 pub mod Beats
 pub mod Torn
+pub mod Halves

@@ -5,6 +5,7 @@
 
 pub mod beats;
 pub mod laws;
+pub mod pieces;
 pub mod registries;
 pub mod silent;
 pub mod tally;

@@ -1,8 +1,10 @@
 //! The calls by which encoders write a worked trace.
 
-use dial9_trace_format::encoder::{Call, Encoder};
+use dial9_trace_format::TraceEvent;
+use dial9_trace_format::encoder::{Call, Encoder, Schema};
 use dial9_trace_format::leb128::{EncodeError, TraceWrite};
-use std::alloc::Global;
+use dial9_trace_format::types::FieldValue;
+use std::alloc::{AllocError, Global};
 use trace_samples::events::{FastSlot, Poll};
 
 /// A call of an encoder.
@@ -69,4 +71,37 @@ pub fn write_parts(alloc: Global, parts: &[Vec<Step>]) -> Result<Vec<u8>, Encode
         bytes = encoder.finish();
     }
     Ok(bytes)
+}
+
+/// The calls of a list that write what these steps write: events of types by their schemas and their values.
+pub fn calls_of(alloc: Global, steps: Vec<Step>) -> Result<Vec<Call>, AllocError> {
+    let mut calls = Vec::new(alloc);
+    for step in steps {
+        calls.push(call_of(alloc, step)?)?;
+    }
+    Ok(calls)
+}
+
+fn call_of(alloc: Global, step: Step) -> Result<Call, AllocError> {
+    match step {
+        Step::Call(call) => Ok(call),
+        Step::Slot(event) => slot_call(alloc, event.time),
+        Step::Poll(event) => poll_call(alloc, &event),
+    }
+}
+
+fn slot_call(alloc: Global, time: u64) -> Result<Call, AllocError> {
+    let schema = Schema::from_entry(alloc, FastSlot::schema_entry(alloc)?)?;
+    Ok(Call::WriteEventAt(FastSlot::type_slot(), schema, time, Vec::new(alloc)))
+}
+
+fn poll_call(alloc: Global, poll: &Poll) -> Result<Call, AllocError> {
+    let schema = Schema::from_entry(alloc, Poll::schema_entry(alloc)?)?;
+    let core = match poll.cpu {
+        Some(core) => FieldValue::Varint(core as u64),
+        None => FieldValue::None,
+    };
+    let worker = FieldValue::Varint(poll.worker);
+    let values = [worker, core, FieldValue::PooledString(poll.label)];
+    Ok(Call::WriteEvent(schema, poll.time, Vec::from_array(alloc, values)?))
 }

@@ -61,6 +61,12 @@ impl Schema {
         self
     }
 
+    /// With an annotation of the schema itself, which has the index 65,535 (docs/ROLES.md).
+    pub fn noted(mut self, key: &str, value: &str) -> Schema {
+        self.annotations.push((u16::MAX, key.to_owned(), value.to_owned()));
+        self
+    }
+
     // A schema that was read.
     pub(crate) fn from_parts(
         name: String,

@@ -73,6 +73,22 @@ fn each_type() -> Result<(), Error> {
     Ok(())
 }
 
+// A schema without fields, with annotations of itself: the lines are worked out by hand from docs/FORMAT.md.
+#[test]
+fn annotations_of_a_schema() -> Result<(), Error> {
+    let begun = Schema::new("Begun").noted("begin", "request").noted("clock", "unix");
+    let mut recorder = Recorder::new(Vec::new());
+    recorder.event(&begun, 5, &[])?;
+    let trace = recorder.finish()?;
+    let wanted = "trace version 1\nschema \"Begun\"\nannotations 256 65535:\"begin\"=\"request\" \
+        65535:\"clock\"=\"unix\"\nevent 256 5\nend whole\n";
+    assert_eq!(dump(&trace, false)?.lines, wanted);
+    let read: Vec<_> = events(&trace)?.collect();
+    let notes: Vec<_> = read[0].schema.annotations().collect();
+    assert_eq!(notes, [(65_535, "begin", "request"), (65_535, "clock", "unix")]);
+    Ok(())
+}
+
 #[test]
 fn batches_join() -> Result<(), Error> {
     let tick = Schema::new("Tick").field("n", FieldType::Varint);

@@ -1,117 +1,98 @@
-//! The options that several subcommands take.
+//! The options of a subcommand, by their forms.
 
 use clap::{Arg, ArgAction, Command, value_parser};
 use std::alloc::{AllocError, Global};
 
-/// The files, and which of their events.
-pub(crate) fn selecting<'a>(
+/// An option, or what stands there without one.
+#[derive(Clone, Copy)]
+pub(crate) struct Choice {
+    pub(crate) name: &'static str,
+    pub(crate) form: Form,
+    /// What its value is called; nothing where it has none.
+    pub(crate) value_name: &'static str,
+    pub(crate) help: &'static str,
+}
+
+/// What is given with an option.
+#[derive(Clone, Copy)]
+pub(crate) enum Form {
+    /// Nothing: it is yes where it is said.
+    Flag,
+    /// A text.
+    Text,
+    /// A text, also after this letter.
+    ShortText(char),
+    /// The same, and it must be given.
+    NeededText(char),
+    /// A text each time that it is said.
+    Texts,
+    /// A number.
+    Number,
+    /// A number, also after this letter.
+    ShortNumber(char),
+    /// A file, without an option.
+    File,
+    /// One that must be given.
+    NeededFile,
+    /// Several files.
+    Files,
+}
+
+/// A subcommand with these options.
+pub(crate) fn with_options<'a>(
     alloc: Global,
     command: Command<'a>,
+    options: &[Choice],
 ) -> Result<Command<'a>, AllocError> {
-    let files = files(alloc);
-    picking(alloc, command.arg(files)?)
+    let mut command = command;
+    for option in options {
+        command = command.arg(argument(alloc, option))?;
+    }
+    Ok(command)
 }
 
-/// Which events.
-pub(crate) fn picking<'a>(alloc: Global, command: Command<'a>) -> Result<Command<'a>, AllocError> {
-    let event = Arg::new(alloc, "event")
-        .long("event")
-        .value_name("NAME")
-        .action(ArgAction::Append)
-        .help("Events of this name alone (may be given several times)");
-    let limit = number(alloc, "limit", "N", "At most so many events").short('n');
-    let command = range(alloc, command)?;
-    command.arg(event)?.arg(limit)
+// An option as its form has it.
+fn argument<'a>(alloc: Global, option: &Choice) -> Arg<'a> {
+    match option.form {
+        Form::Flag => flag(alloc, option),
+        Form::Text => text(alloc, option),
+        Form::ShortText(letter) => text(alloc, option).short(letter),
+        Form::NeededText(letter) => text(alloc, option).short(letter).required(true),
+        Form::Texts => text(alloc, option).action(ArgAction::Append),
+        Form::Number => number(alloc, option),
+        Form::ShortNumber(letter) => number(alloc, option).short(letter),
+        Form::File => file(alloc, option).default_value("-"),
+        Form::NeededFile => file(alloc, option).required(true),
+        Form::Files => files(alloc, option),
+    }
 }
 
-/// From when to when.
-pub(crate) fn range<'a>(alloc: Global, command: Command<'a>) -> Result<Command<'a>, AllocError> {
-    let from = Arg::new(alloc, "from")
-        .long("from")
-        .value_name("TIME")
-        .help("No event before this time, in nanoseconds or as a date");
-    let to = Arg::new(alloc, "to")
-        .long("to")
-        .value_name("TIME")
-        .help("No event after this time, in nanoseconds or as a date");
-    command.arg(from)?.arg(to)
+// Yes where it is said.
+fn flag<'a>(alloc: Global, option: &Choice) -> Arg<'a> {
+    Arg::new(alloc, option.name)
+        .long(option.name)
+        .action(ArgAction::SetTrue)
+        .help(option.help)
 }
 
-/// What is written, and what is told meanwhile.
-pub(crate) fn writing<'a>(alloc: Global, command: Command<'a>) -> Result<Command<'a>, AllocError> {
-    let output = Arg::new(alloc, "output")
-        .short('o')
-        .long("output")
-        .value_name("FILE")
-        .help("Write into this file, which must not be there yet");
-    let force = flag(alloc, "force", "Write in place of a file that is there");
-    let quiet = quiet(alloc);
-    command.arg(output)?.arg(force)?.arg(quiet)
+fn text<'a>(alloc: Global, option: &Choice) -> Arg<'a> {
+    file(alloc, option).long(option.name)
 }
 
-/// The folder whose files are written, and what is told meanwhile.
-pub(crate) fn folder<'a>(alloc: Global, command: Command<'a>) -> Result<Command<'a>, AllocError> {
-    let output = Arg::new(alloc, "output")
-        .short('o')
-        .long("output")
-        .value_name("FOLDER")
-        .required(true)
-        .help("Write into this folder, which is made where it is not there");
-    let force = flag(alloc, "force", "Write in place of files that are there");
-    let quiet = quiet(alloc);
-    command.arg(output)?.arg(force)?.arg(quiet)
+fn number<'a>(alloc: Global, option: &Choice) -> Arg<'a> {
+    text(alloc, option).value_parser(value_parser!(u64))
 }
 
-/// Several files.
-pub(crate) fn files<'a>(alloc: Global) -> Arg<'a> {
-    Arg::new(alloc, "file")
-        .value_name("FILE")
+// What stands there without an option.
+fn file<'a>(alloc: Global, option: &Choice) -> Arg<'a> {
+    Arg::new(alloc, option.name)
+        .value_name(option.value_name)
+        .help(option.help)
+}
+
+fn files<'a>(alloc: Global, option: &Choice) -> Arg<'a> {
+    file(alloc, option)
         .action(ArgAction::Append)
         .num_args(1..)
-        .help("The traces, - for standard input")
         .default_value("-")
-}
-
-/// One file.
-pub(crate) fn file<'a>(alloc: Global) -> Arg<'a> {
-    Arg::new(alloc, "file")
-        .value_name("FILE")
-        .help("The trace, - for standard input")
-        .default_value("-")
-}
-
-/// Whether the events of all files are shown in one order.
-pub(crate) fn merge<'a>(alloc: Global) -> Arg<'a> {
-    flag(
-        alloc,
-        "merge",
-        "The events of all files by their times, each with its file",
-    )
-}
-
-/// Whether nothing is told of how far reading is.
-pub(crate) fn quiet<'a>(alloc: Global) -> Arg<'a> {
-    flag(alloc, "quiet", "Do not tell how far reading is")
-}
-
-/// A number.
-pub(crate) fn number<'a>(
-    alloc: Global,
-    name: &'a str,
-    value_name: &'a str,
-    help: &'a str,
-) -> Arg<'a> {
-    Arg::new(alloc, name)
-        .long(name)
-        .value_name(value_name)
-        .value_parser(value_parser!(u64))
-        .help(help)
-}
-
-/// Yes where it is said.
-pub(crate) fn flag<'a>(alloc: Global, name: &'a str, help: &'a str) -> Arg<'a> {
-    Arg::new(alloc, name)
-        .long(name)
-        .action(ArgAction::SetTrue)
-        .help(help)
 }

@@ -1,6 +1,6 @@
 -- For private contracts: what was copied of the frames that were read, and what one frame more does.
 use Rattle.std.specs.Prelude.{◌≡◌, ◌<◌, ◌==◌, if◌then◌else◌, ℕ, ◌-◌, List}
-use Rattle.std.specs.Prelude.{[], ◌++◌, length, take, Option, None}
+use Rattle.std.specs.Prelude.{[], ◌++◌, length, take, Option, None, false}
 use Rattle.trace_values.specs.Values.{Value, owned_reader}
 use Rattle.trace_wire.specs.declared.schema.WireTypeId.{WireTypeId}
 use Rattle.trace_wire.specs.Schemas.{Shape}
@@ -11,6 +11,7 @@ use Rattle.trace_cuts.specs.declared.copying.Copying.{Copying}
 use Rattle.trace_cuts.specs.declared.copying.Next.{Next}
 use Rattle.trace_cuts.specs.declared.copying.Next.TheVariants as next
 use Rattle.trace_cuts.specs.Cuts.{IsCutOfFrames, TellsConflict}
+use Rattle.trace_cuts.specs.Resets.{base_after, is_left_out}
 
 -- what stands before the last bytes
 abbrev pub before : List ℕ → List ℕ → List ℕ
@@ -21,7 +22,8 @@ abbrev pub needed_reset : ℕ → ℕ → List ℕ
 needed_reset base time = if base == time then [] else reset_bytes time
 
 -- Of bytes after a header frames were read, and these are left, in a grammar state. What was copied after a start are
--- the frames that stay of them. They leave the same wire types and pools, and a base time of their own.
+-- the frames that stay of them. They leave the same wire types and pools, and a base time of their own: that of the
+-- frames, where what set theirs was copied.
 pub record Copies (r : TimeRange) (start bytes rest : List ℕ) (g : Grammar) (base : ℕ) (copied : List ℕ) : Type 0 where
   pub frames : List Frame
   pub taken : List ℕ
@@ -33,6 +35,9 @@ pub record Copies (r : TimeRange) (start bytes rest : List ℕ) (g : Grammar) (b
   pub kept_run : IsRun (all_of_kind owned_reader kept) empty spelled kept (grammar_of g.wire_types base)
   pub cut : IsCutOfFrames r frames kept
   pub pools : pools_after no_pools kept ≡ pools_after no_pools frames
+  pub base_is : base_after 0 frames ≡ g.base
+  pub kept_base : base_after 0 kept ≡ base
+  pub same_base : is_left_out r false frames ≡ false → base ≡ g.base
 
 -- the same of what the code keeps
 abbrev pub HasCopied : TimeRange → List ℕ → List ℕ → Copying → Type 0

@@ -1,5 +1,6 @@
 -- For private contracts: what is written by a writer of JSON.
-use Rattle.std.specs.Prelude.{◌≡◌, ℕ, List, [], ◌∷◌, ◌++◌, OnOk, Result, codes}
+use Rattle.std.specs.Prelude.{◌≡◌, ℕ, List, [], ◌∷◌, ◌++◌, OnOk, Result, Option, None, Some, codes}
+use Rattle.std.specs.Borrow.{Bor}
 use Rattle.std.specs.Fmt.{decimal}
 use Rattle.std.specs.List.{flat_map}
 use Rattle.json.specs.Json.{Json}
@@ -29,8 +30,16 @@ PutsAll each are old new result = OnOk result (StandAll each are old.tokens new.
 abbrev pub member_tokens : List ℕ × Json → List Token
 member_tokens m = key m.0 ∷ json_tokens m.1
 
+-- the members of an event up to its fields
+abbrev pub naming_tokens : List ℕ → ℕ → List Token
+naming_tokens name time =
+    key (codes "event") ∷ string name ∷ key (codes "timestamp_ns") ∷ number (decimal time) ∷ key (codes "fields") ∷ []
+
+-- the name of a file, where one is told
+abbrev pub file_tokens : Option (Bor (List ℕ)) → List Token
+file_tokens None = []
+file_tokens (Some name) = key (codes "file") ∷ string name.now ∷ []
+
 -- how an event's object begins, up to its fields
-abbrev pub head_tokens : List ℕ → ℕ → List Token
-head_tokens name time =
-    begin_object ∷ key (codes "event") ∷ string name ∷ key (codes "timestamp_ns") ∷ number (decimal time)
-    ∷ key (codes "fields") ∷ []
+abbrev pub head_tokens : Option (Bor (List ℕ)) → List ℕ → ℕ → List Token
+head_tokens file name time = begin_object ∷ (file_tokens file ++ naming_tokens name time)

@@ -3,6 +3,7 @@
 use crate::leaves::{put_bytes, put_float, put_pooled_stack, put_pooled_text, put_stack_ref};
 use crate::texts::put_texts;
 use crate::value::JsonValue;
+use crate::weights::{LITTLE, pooled_stack_weight, pooled_text_weight};
 use json::Writer;
 use std::alloc::{AllocError, Global};
 use trace_values::types::FieldValueRef;
@@ -30,6 +31,18 @@ impl<'a> JsonValue for FieldValueRef<'a> {
             FieldValueRef::None => out.null(),
             FieldValueRef::List(_) => out.null(),
             FieldValueRef::Map(_) => out.null(),
+        }
+    }
+
+    fn weight(&self, strings: &StringPool, stacks: &StackPool) -> usize {
+        match self {
+            FieldValueRef::String(text) => text.len(),
+            FieldValueRef::Bytes(bytes) => bytes.len().saturating_mul(2),
+            FieldValueRef::PooledString(id) => pooled_text_weight(strings, *id),
+            FieldValueRef::StackFrames(frames) => frames.raw_data().len().saturating_mul(2),
+            FieldValueRef::PooledStackFrames(id) => pooled_stack_weight(stacks, *id),
+            FieldValueRef::StringMap(pairs) => pairs.raw_data().len(),
+            _ => LITTLE,
         }
     }
 }

@@ -3,6 +3,7 @@
 use crate::leaves::{put_bytes, put_float, put_pooled_stack, put_pooled_text, put_stack};
 use crate::texts::put_owned_texts;
 use crate::value::JsonValue;
+use crate::weights::{LITTLE, pairs_weight, pooled_stack_weight, pooled_text_weight, stack_weight};
 use json::Writer;
 use std::alloc::{AllocError, Global};
 use trace_values::types::FieldValue;
@@ -30,6 +31,18 @@ impl JsonValue for FieldValue {
             FieldValue::None => out.null(),
             FieldValue::List(_) => out.null(),
             FieldValue::Map(_) => out.null(),
+        }
+    }
+
+    fn weight(&self, strings: &StringPool, stacks: &StackPool) -> usize {
+        match self {
+            FieldValue::String(text) => text.len(),
+            FieldValue::Bytes(bytes) => bytes.len().saturating_mul(2),
+            FieldValue::PooledString(id) => pooled_text_weight(strings, *id),
+            FieldValue::StackFrames(frames) => stack_weight(frames.as_slice()),
+            FieldValue::PooledStackFrames(id) => pooled_stack_weight(stacks, *id),
+            FieldValue::StringMap(pairs) => pairs_weight(pairs.as_slice()),
+            _ => LITTLE,
         }
     }
 }

@@ -3,7 +3,8 @@ use Rattle.std.specs.Prelude.{◌≡◌, ℕ, List, [], ◌++◌, Result, Ok, Er
 use Rattle.std.proofs.Common.{refl, sym, ap, ◌∙◌, append-nil, append_assoc}
 use Rattle.trace_values.specs.Sending.{Account}
 use Rattle.trace_values.proofs.SendingLemmas.{TookOnly-none, TookOnly-join}
-use Rattle.trace_lines.specs.parts.SentLines.{Leaves, GoThrough, LineGrows, unsent}
+use Rattle.trace_lines.specs.SentLines.{Leaves, GoThrough}
+use Rattle.trace_lines.specs.parts.SentLines.{LineGrows, unsent}
 use Rattle.trace_lines.specs.declared.sent_lines.Lines.{Lines}
 use Rattle.trace_lines.specs.declared.sent_lines.LineFault.{LineFault}
 use Rattle.trace_lines.specs.declared.sent_lines.LineFault.TheVariants.{OutOfMemory, Unsent}

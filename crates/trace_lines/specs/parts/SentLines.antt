@@ -1,33 +1,14 @@
 -- For private contracts: lines that are sent as they grow.
-use Rattle.std.specs.Prelude.{◌≡◌, ℕ, List, [], ◌++◌, Result, Ok, Err, string_bytes}
-use Rattle.trace_values.specs.Sending.{Account, TookOnly}
+use Rattle.std.specs.Prelude.{◌≡◌, ℕ, List, ◌++◌, Result, Ok, Err, string_bytes}
+use Rattle.trace_values.specs.Sending.{Account}
 use Rattle.dial9_trace_format.specs.ShownEvents.{ShownEvent}
 use Rattle.trace_lines.specs.Lines.{line}
-use Rattle.trace_lines.specs.Dumps.{PrintsUpToFault}
 use Rattle.trace_lines.specs.ResolvedLines.{resolved_line}
+use Rattle.trace_lines.specs.SentLines.{GoThrough}
 use Rattle.trace_lines.specs.declared.sent_lines.Lines.{Lines}
 use Rattle.trace_lines.specs.declared.sent_lines.LineFault.{LineFault}
-use Rattle.trace_lines.specs.declared.sent_lines.LineFault.TheVariants.{OutOfMemory, Unsent}
 use Rattle.trace_lines.specs.declared.sent_lines.LinesRefusal.{LinesRefusal}
 use Rattle.trace_lines.specs.declared.sent_lines.LinesRefusal.TheVariants.{Enough, Fault}
-
--- a front of the bytes went to a writer without a fault, and this is the rest
-pub record Leaves (old new : Account) (whole rest : List ℕ) : Type 0 where
-  pub sent : List ℕ
-  pub took : TookOnly old new sent []
-  pub is : whole ≡ sent ++ rest
-
--- bytes are a front of others
-abbrev pub BeginsWith : List ℕ → List ℕ → Type 0
-BeginsWith whole written = (following : List ℕ) × (whole ≡ written ++ following)
-
--- What an answer says of bytes that were to go through the lines to their writer. Where all was appended, these are the
--- rest that was not sent. Where a growth was refused, what is held is a front of the rest. Where the writer failed, it
--- got a front of the bytes, and nothing after its fault.
-abbrev pub GoThrough : Account → Account → List ℕ → List ℕ → List ℕ → Result (Unit {0}) LineFault → Type 0
-GoThrough old new whole rest held (Ok u) = Leaves old new whole rest
-GoThrough old new whole rest held (Err OutOfMemory) = (after : List ℕ) × Leaves old new whole (held ++ after)
-GoThrough old new whole rest held (Err Unsent) = PrintsUpToFault (BeginsWith whole) old new
 
 -- lines that keep their writer, whose bytes go through it
 pub record GoOut {W : Type 0} (told : W → Account) (old new : Lines W) (whole rest : List ℕ)

@@ -31,7 +31,11 @@ fn place(names: &[&str], name: &str) -> u32 {
 }
 /// The trace of a workload of either program.
 fn any(name: &str, n: u64) -> Vec<u8> {
-    if more::WORKS.contains(&name) { more::written(place(&more::WORKS, name), n) } else { written(place(&WORKS, name), n) }
+    if more::WORKS.contains(&name) {
+        more::written(place(&more::WORKS, name), n)
+    } else {
+        written(place(&WORKS, name), n)
+    }
 }
 
 fn main() {
@@ -40,7 +44,8 @@ fn main() {
         // xwrite IMPL WORK COUNT
         "xwrite" => {
             let (work, n) = (place(&more::WORKS, &a[2]), a[3].parse().unwrap());
-            let v = if a[1] == "orig" { more::written(work, n).len() as u64 } else { unsafe { port_x_write(work, n, 0) } };
+            let v =
+                if a[1] == "orig" { more::written(work, n).len() as u64 } else { unsafe { port_x_write(work, n, 0) } };
             println!("{}", black_box(v));
         }
         // xread IMPL TRACE COUNT WAY TURNS: the ways that have no turns of their own are called in turns
@@ -50,14 +55,22 @@ fn main() {
             let (outer, inner) = if form < 3 { (turns, 1) } else { (1, turns) };
             let mut t = 0u64;
             for _ in 0..outer {
-                t = t.wrapping_add(if a[1] == "orig" { more::read(form, inner, &data) } else { unsafe { port_x_read(form, inner, data.as_ptr(), data.len()) } });
+                t = t.wrapping_add(if a[1] == "orig" {
+                    more::read(form, inner, &data)
+                } else {
+                    unsafe { port_x_read(form, inner, data.as_ptr(), data.len()) }
+                });
             }
             println!("{}", black_box(t));
         }
         // alone IMPL FORM KIND TURNS
         "alone" => {
             let (form, kind, turns) = (place(&more::FORMS, &a[2]), place(&more::KINDS, &a[3]), a[4].parse().unwrap());
-            let v = if a[1] == "orig" { more::alone(form, kind, turns) } else { unsafe { port_x_alone(form, kind, turns) } };
+            let v = if a[1] == "orig" {
+                more::alone(form, kind, turns)
+            } else {
+                unsafe { port_x_alone(form, kind, turns) }
+            };
             println!("{}", black_box(v));
         }
         "check" => {
@@ -74,7 +87,9 @@ fn main() {
                     if *way == "resolve" && ["fixed", "pooled"].contains(&name) {
                         continue;
                     }
-                    let (o, p) = (more::read(form as u32, 2, &data), unsafe { port_x_read(form as u32, 2, data.as_ptr(), data.len()) });
+                    let (o, p) = (more::read(form as u32, 2, &data), unsafe {
+                        port_x_read(form as u32, 2, data.as_ptr(), data.len())
+                    });
                     if o != p {
                         println!("{way} {name} DIFFER");
                     }
@@ -94,13 +109,30 @@ fn main() {
             let k: usize = a[1].parse().unwrap();
             let n: u64 = a[2].parse().unwrap();
             let only = a.get(3).cloned().unwrap_or_default();
-            let row = |name: &str, per: f64, (o, p): (f64, f64)| println!("{name:34} original {:8.1} ns  library {:8.1} ns  ratio {:5.2}", o / per * 1e9, p / per * 1e9, p / o);
+            let row = |name: &str, per: f64, (o, p): (f64, f64)| {
+                println!(
+                    "{name:34} original {:8.1} ns  library {:8.1} ns  ratio {:5.2}",
+                    o / per * 1e9,
+                    p / per * 1e9,
+                    p / o
+                )
+            };
             for (w, name) in more::WORKS.iter().enumerate() {
                 let w = w as u32;
-                let m = if *name == "text64k" { n / 400 + 1 } else if ["f64", "text1k", "stack128", "list100", "small10", "reset10", "spool64"].contains(name) { n / 20 + 1 } else { n / 2 };
+                let m = if *name == "text64k" {
+                    n / 400 + 1
+                } else if ["f64", "text1k", "stack128", "list100", "small10", "reset10", "spool64"].contains(name) {
+                    n / 20 + 1
+                } else {
+                    n / 2
+                };
                 let per = m as f64 * if *name == "spool64" { 64.0 } else { 1.0 };
                 if format!("write {name}").contains(&only) {
-                    row(&format!("write {name}"), per, both(k, || more::written(w, m).len() as u64, || unsafe { port_x_write(w, m, 0) }));
+                    row(
+                        &format!("write {name}"),
+                        per,
+                        both(k, || more::written(w, m).len() as u64, || unsafe { port_x_write(w, m, 0) }),
+                    );
                 }
             }
             for name in ["varint3", "stacks", "nested", "pooled", "fixed", "smap", "list100", "stack128", "f16"] {
@@ -108,15 +140,28 @@ fn main() {
                 let data = any(name, m);
                 for (form, way) in more::READS.iter().enumerate() {
                     let label = format!("{way} {name}");
-                    if !label.contains(&only) || ["into_encoder", "open+sink"].contains(way) || *way == "resolve" && ["fixed", "pooled"].contains(&name) {
+                    if !label.contains(&only)
+                        || ["into_encoder", "open+sink"].contains(way)
+                        || *way == "resolve" && ["fixed", "pooled"].contains(&name)
+                    {
                         continue;
                     }
                     let form = form as u32;
-                    let ways = |turns: u64| both(k, || more::read(form, turns, &data), || unsafe { port_x_read(form, turns, data.as_ptr(), data.len()) });
+                    let ways = |turns: u64| {
+                        both(
+                            k,
+                            || more::read(form, turns, &data),
+                            || unsafe { port_x_read(form, turns, data.as_ptr(), data.len()) },
+                        )
+                    };
                     // (what decoding takes is taken off where frames are decoded first)
                     let decoded_first = (3..7).contains(&form);
                     let (with, without) = if decoded_first { (ways(5), ways(1)) } else { (ways(1), (0.0, 0.0)) };
-                    row(&label, (m * if decoded_first { 4 } else { 1 }) as f64, (with.0 - without.0, with.1 - without.1));
+                    row(
+                        &label,
+                        (m * if decoded_first { 4 } else { 1 }) as f64,
+                        (with.0 - without.0, with.1 - without.1),
+                    );
                 }
             }
             for (form, f) in more::FORMS.iter().enumerate() {
@@ -124,7 +169,11 @@ fn main() {
                     let (form, kind, label) = (form as u32, kind as u32, format!("{f} alone {name}"));
                     if label.contains(&only) {
                         let turns = n / 640 + 1;
-                        row(&label, (turns * more::COPIES) as f64, both(k, || more::alone(form, kind, turns), || unsafe { port_x_alone(form, kind, turns) }));
+                        row(
+                            &label,
+                            (turns * more::COPIES) as f64,
+                            both(k, || more::alone(form, kind, turns), || unsafe { port_x_alone(form, kind, turns) }),
+                        );
                     }
                 }
             }

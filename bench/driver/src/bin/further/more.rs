@@ -13,18 +13,22 @@ use std::io::{self, BufWriter, Write};
 
 /// The names of the workloads of writing, in the order of their numbers. The first ten are traces, and read too.
 pub const WORKS: [&str; 24] = [
-    "f1", "f8", "f16", "f64", "text1k", "text64k", "stack1", "stack128", "list100", "smap", "small10", "reset10", "bufwriter", "plainvec",
-    "spool64", "encode-num", "encode-text", "encode-list", "known-stack", "new-stack", "slot-wide", "f0", "known-event", "known-slot",
+    "f1", "f8", "f16", "f64", "text1k", "text64k", "stack1", "stack128", "list100", "smap", "small10", "reset10",
+    "bufwriter", "plainvec", "spool64", "encode-num", "encode-text", "encode-list", "known-stack", "new-stack",
+    "slot-wide", "f0", "known-event", "known-slot",
 ];
 /// The names of the ways of reading, in the order of their numbers.
 pub const READS: [&str; 11] = [
-    "iterate", "to_owned", "resolve", "clone", "eq", "ref_clone", "ref_eq", "into_encoder", "open+sink", "next_event_into",
-    "next_event_ref_into",
+    "iterate", "to_owned", "resolve", "clone", "eq", "ref_clone", "ref_eq", "into_encoder", "open+sink",
+    "next_event_into", "next_event_ref_into",
 ];
 /// The names of what is done with one value by itself, and of the values, in the order of their numbers.
-pub const FORMS: [&str; 9] = ["encode", "decode", "clone", "eq", "ref_decode", "ref_clone", "ref_eq", "to_owned", "iterate"];
-pub const KINDS: [&str; 13] =
-    ["num", "i64", "bool", "pooled", "text", "bytes16", "text1k", "stack32", "stack128", "smap", "list", "map", "list100"];
+pub const FORMS: [&str; 9] =
+    ["encode", "decode", "clone", "eq", "ref_decode", "ref_clone", "ref_eq", "to_owned", "iterate"];
+pub const KINDS: [&str; 13] = [
+    "num", "i64", "bool", "pooled", "text", "bytes16", "text1k", "stack32", "stack128", "smap", "list", "map",
+    "list100",
+];
 
 fn define<W: Write>(e: &mut Encoder<W>, name: &str, fields: &[(&'static str, T)]) -> Schema {
     e.register_schema(name, fields.iter().map(|f| FieldDef::new(f.0, f.1)).collect()).unwrap()
@@ -40,7 +44,12 @@ fn stacks(n: u64, count: u64) -> Vec<u8> {
 }
 fn pairs() -> V {
     let pair = |k: &str, v: &str| (k.as_bytes().to_vec(), v.as_bytes().to_vec());
-    V::StringMap(vec![pair("method", "GET"), pair("path", "/index/of/things.html"), pair("status", "200"), pair("host", "example.org")])
+    V::StringMap(vec![
+        pair("method", "GET"),
+        pair("path", "/index/of/things.html"),
+        pair("status", "200"),
+        pair("host", "example.org"),
+    ])
 }
 const THREE: [(&str, T); 3] = [("worker", T::Varint), ("task", T::Varint), ("spent", T::Varint)];
 #[inline(always)]
@@ -229,11 +238,16 @@ fn weight(v: &V) -> u64 {
     }
 }
 fn frame_weight(f: &DecodedFrame) -> u64 {
-    if let DecodedFrame::Event { timestamp_ns, values, .. } = f { values.iter().fold(*timestamp_ns, |t, v| t.wrapping_add(weight(v))) } else { 0 }
+    if let DecodedFrame::Event { timestamp_ns, values, .. } = f {
+        values.iter().fold(*timestamp_ns, |t, v| t.wrapping_add(weight(v)))
+    } else {
+        0
+    }
 }
 /// An event resolved by hand: the entries that `RawEvent::resolve` of the library makes, by the same lookups.
 fn resolved(e: &RawEvent) -> Vec<(String, V)> {
-    let mut entries = vec![("event".to_string(), V::string(e.name)), ("timestamp_ns".to_string(), V::Varint(e.timestamp_ns))];
+    let mut entries =
+        vec![("event".to_string(), V::string(e.name)), ("timestamp_ns".to_string(), V::Varint(e.timestamp_ns))];
     for (name, value) in e.field_names().zip(e.fields) {
         let value = match value {
             R::PooledString(id) => V::string(e.string_pool.get(*id).unwrap()),
@@ -274,7 +288,8 @@ pub fn read(form: u32, turns: u64, data: &[u8]) -> u64 {
         }
         5 => {
             let frames = Decoder::new(data).unwrap().decode_all_ref();
-            let time = |f: DecodedFrameRef| if let DecodedFrameRef::Event { timestamp_ns, .. } = f { timestamp_ns } else { 0 };
+            let time =
+                |f: DecodedFrameRef| if let DecodedFrameRef::Event { timestamp_ns, .. } = f { timestamp_ns } else { 0 };
             in_turns(turns, || frames.iter().fold(0, |t, f| t.wrapping_add(time(black_box(f.clone())))))
         }
         6 => {
@@ -312,7 +327,11 @@ fn value_of(kind: u32) -> (T, V) {
         9 => (T::StringMap, pairs()),
         10 => (T::DynamicList, nested_value()),
         11 => {
-            let pairs = vec![(V::string("first"), V::Varint(5)), (V::string("second"), V::Varint(70000)), (V::string("third"), V::Bool(true))];
+            let pairs = vec![
+                (V::string("first"), V::Varint(5)),
+                (V::string("second"), V::Varint(70000)),
+                (V::string("third"), V::Bool(true)),
+            ];
             (T::DynamicMap, V::Map(pairs))
         }
         _ => (T::DynamicList, V::List(numbers(100))),

@@ -1,4 +1,3 @@
-use Rattle.trace_json.specs.EventJson.{special_text}
 use Rattle.trace_json.proofs.Floats.{numeral_put, special_put}
 use Rattle.trace_json.proofs.leaves.put_float.Goals as goal
 

@@ -1,75 +1,96 @@
-use Rattle.std.proofs.Common.{refl, ◌∙◌, [], map as list_map, arith}
+use Rattle.std.proofs.Common.{refl, [], map as list_map, arith}
 use Rattle.trace_values.proofs.ValueSizes.{falls_3, steps_3}
 use Rattle.trace_events.proofs.Depths.{item_in, key_in, value_in, most_below, most_pair_below}
 use Rattle.json.specs.Tree.{json_tokens}
 use Rattle.trace_values.specs.Reading.{values_to_items, values_to_pairs}
 use Rattle.dial9_trace_format.specs.parts.Resolving.{as_pools}
 use Rattle.trace_json.specs.EventJson.{AreItemsJson, ArePairsJson, IsValueJson}
-use Rattle.trace_json.proofs.Tokens.{list_stands, nothing_put, pair_closed}
-use Rattle.trace_json.proofs.OneMore.{all_stand, item_stands, pair_stands_in}
+use Rattle.trace_json.proofs.Grown.{all_grown, item_grown, list_closed, none_grown, pair_grown, pairs_grown}
 use Rattle.trace_json.proofs.value.+value.Goals as goal
 
-pub put_list-returns-clause-tokens : goal.put_list-returns-clause-tokens
-put_list-returns-clause-tokens g t c =
-    list_stands c.end_array.result
+pub put_list-returns-2 : goal.put_list-returns-2
+put_list-returns-2 g t c = g.met.L.GrowingJson.carries _ _ _ _ _ c.in-Ok-tri.ensures c.in-Err-tri-2.ensures
+
+pub put_list-returns-3 : goal.put_list-returns-3
+put_list-returns-3 g t c =
+    list_closed g.met.L.GrowingJson.joins g.met.L.GrowingJson.carries
     (AreItemsJson (as_pools c.args.strings.now c.args.stacks.now)
     (values_to_items (list_map g.V.TraceValue.value c.args.items.now)))
-    c.args.out.now.tokens c.begin_array.new.self.tokens c.put_items.new.out.tokens c.end_array.new.self.tokens
-    c.in_ok-begin_array.ensures.ok c.in_ok-put_items.ensures.tokens c.end_array.ensures.ok
+    c.put_mark-2.new.self c.put_mark-2.result c.in-Ok-tri.ensures c.in-Ok-tri-2.ensures c.put_mark-2.ensures
 
-pub put_map-returns-clause-tokens : goal.put_map-returns-clause-tokens
-put_map-returns-clause-tokens g t c =
+pub put_map-returns-2 : goal.put_map-returns-2
+put_map-returns-2 g t c = g.met.L.GrowingJson.carries _ _ _ _ _ c.in-Ok-tri.ensures c.in-Err-tri-2.ensures
+
+pub put_map-returns-3 : goal.put_map-returns-3
+put_map-returns-3 g t c =
     let value = g.V.TraceValue.value in
-    list_stands c.end_array.result
+    list_closed g.met.L.GrowingJson.joins g.met.L.GrowingJson.carries
     (ArePairsJson (as_pools c.args.strings.now c.args.stacks.now)
     (values_to_pairs (list_map (λ p. (value p.0, value p.1)) c.args.pairs.now)))
-    c.args.out.now.tokens c.begin_array.new.self.tokens c.put_pairs.new.out.tokens c.end_array.new.self.tokens
-    c.in_ok-begin_array.ensures.ok c.in_ok-put_pairs.ensures.tokens c.end_array.ensures.ok
+    c.put_mark-2.new.self c.put_mark-2.result c.in-Ok-tri.ensures c.in-Ok-tri-2.ensures c.put_mark-2.ensures
 
 pub put_items-items-init : goal.put_items-items-init
-put_items-items-init g t c = record {
-  tokens = record { all = []; are_so = refl; tokens = nothing_put c.args.out.now.tokens };
-  before = refl;
-}
+put_items-items-init g t c =
+    none_grown json_tokens (AreItemsJson (as_pools c.args.strings.now c.args.stacks.now) (values_to_items []))
+    c.args.out.now refl (g.met.L.GrowingJson.empty c.args.out.now)
 
 pub put_items-items-preserved : goal.put_items-items-preserved
-put_items-items-preserved g t c = record {
-  tokens = item_stands (as_pools c.args.strings.now c.args.stacks.now) g.V.TraceValue.value c.args.items.now
-      c.items.item-index _ c.items-test.true c.item-item.is c.items.invariant.tokens c.in_ok-put_value.ensures.tokens;
-  before = c.in_ok-put_value.ensures.before ∙ c.items.invariant.before;
-}
+put_items-items-preserved g t c =
+    item_grown g.met.L.GrowingJson.joins (as_pools c.args.strings.now c.args.stacks.now) g.V.TraceValue.value
+    c.args.items.now c.items.item-index c.items-test.true c.item-item.is c.items.invariant c.in-Ok-tri.ensures
 
-pub put_items-returns-clause-tokens : goal.put_items-returns-clause-tokens
-put_items-returns-clause-tokens g t c =
-    all_stand json_tokens (λ vs. AreItemsJson (as_pools c.args.strings.now c.args.stacks.now) (values_to_items vs))
-    g.V.TraceValue.value c.args.items.now c.items.item-index _ _ c.items-test.false c.items.invariant.tokens
+pub put_items-returns-in-items : goal.put_items-returns-in-items
+put_items-returns-in-items g t c =
+    g.met.L.GrowingJson.carries _ _ _ _ _ c.items.invariant.grown c.in-Err-tri.ensures
+
+pub put_items-returns : goal.put_items-returns
+put_items-returns g t c =
+    all_grown json_tokens (λ vs. AreItemsJson (as_pools c.args.strings.now c.args.stacks.now) (values_to_items vs))
+    g.V.TraceValue.value c.args.items.now c.items.item-index c.items-test.false c.items.invariant
 
 pub put_pairs-pairs-init : goal.put_pairs-pairs-init
-put_pairs-pairs-init g t c = record {
-  tokens = record { all = []; are_so = refl; tokens = nothing_put c.args.out.now.tokens };
-  before = refl;
-}
+put_pairs-pairs-init g t c =
+    none_grown json_tokens (ArePairsJson (as_pools c.args.strings.now c.args.stacks.now) (values_to_pairs []))
+    c.args.out.now refl (g.met.L.GrowingJson.empty c.args.out.now)
 
 pub put_pairs-pairs-preserved : goal.put_pairs-pairs-preserved
 put_pairs-pairs-preserved g t c =
     let p = as_pools c.args.strings.now c.args.stacks.now in
     let x = c.pair-item.result in
     let value = g.V.TraceValue.value in
-    record {
-      tokens = pair_stands_in p (λ y. (value y.0, value y.1)) c.args.pairs.now c.pairs.pair-index
-          _ c.pairs-test.true c.pair-item.is c.pairs.invariant.tokens
-          (pair_closed (IsValueJson p (value x.0)) (IsValueJson p (value x.1)) _ c.in-Ok-tri.ensures.ok
-          c.in-Ok-tri-2.ensures.tokens c.in-Ok-tri-3.ensures.tokens c.in-Ok-tri-4.ensures.ok);
-      before = c.in-Ok-tri-4.ensures.room.0 ∙ c.in-Ok-tri-3.ensures.before ∙ c.in-Ok-tri-2.ensures.before
-          ∙ c.in-Ok-tri.ensures.room.0 ∙ c.pairs.invariant.before;
-    }
+    pairs_grown g.met.L.GrowingJson.joins p (λ y. (value y.0, value y.1)) c.args.pairs.now c.pairs.pair-index
+    c.pairs-test.true c.pair-item.is c.pairs.invariant
+    (pair_grown g.met.L.GrowingJson.joins (IsValueJson p (value x.0)) (IsValueJson p (value x.1)) c.in-Ok-tri.ensures
+    c.in-Ok-tri-2.ensures c.in-Ok-tri-3.ensures c.in-Ok-tri-4.ensures)
 
-pub put_pairs-returns-clause-tokens : goal.put_pairs-returns-clause-tokens
-put_pairs-returns-clause-tokens g t c =
+pub put_pairs-returns-in-pairs : goal.put_pairs-returns-in-pairs
+put_pairs-returns-in-pairs g t c =
+    g.met.L.GrowingJson.carries _ _ _ _ _ c.pairs.invariant.grown c.in-Err-tri.ensures
+
+pub put_pairs-returns-in-pairs-2 : goal.put_pairs-returns-in-pairs-2
+put_pairs-returns-in-pairs-2 g t c =
+    let carries = g.met.L.GrowingJson.carries in
+    carries _ _ _ _ _ c.pairs.invariant.grown (carries _ _ _ _ _ c.in-Ok-tri.ensures c.in-Err-tri-2.ensures)
+
+pub put_pairs-returns-in-pairs-3 : goal.put_pairs-returns-in-pairs-3
+put_pairs-returns-in-pairs-3 g t c =
+    let carries = g.met.L.GrowingJson.carries in
+    carries _ _ _ _ _ c.pairs.invariant.grown
+    (carries _ _ _ _ _ c.in-Ok-tri.ensures (carries _ _ _ _ _ c.in-Ok-tri-2.ensures.grown c.in-Err-tri-3.ensures))
+
+pub put_pairs-returns-in-pairs-4 : goal.put_pairs-returns-in-pairs-4
+put_pairs-returns-in-pairs-4 g t c =
+    let carries = g.met.L.GrowingJson.carries in
+    carries _ _ _ _ _ c.pairs.invariant.grown
+    (carries _ _ _ _ _ c.in-Ok-tri.ensures
+    (carries _ _ _ _ _ c.in-Ok-tri-2.ensures.grown
+    (carries _ _ _ _ _ c.in-Ok-tri-3.ensures.grown c.in-Err-tri-4.ensures)))
+
+pub put_pairs-returns : goal.put_pairs-returns
+put_pairs-returns g t c =
     let value = g.V.TraceValue.value in
-    all_stand json_tokens (λ ps. ArePairsJson (as_pools c.args.strings.now c.args.stacks.now) (values_to_pairs ps))
-    (λ p. (value p.0, value p.1)) c.args.pairs.now c.pairs.pair-index _ _ c.pairs-test.false
-    c.pairs.invariant.tokens
+    all_grown json_tokens (λ ps. ArePairsJson (as_pools c.args.strings.now c.args.stacks.now) (values_to_pairs ps))
+    (λ p. (value p.0, value p.1)) c.args.pairs.now c.pairs.pair-index c.pairs-test.false c.pairs.invariant
 
 -- ---- what is gone into next is less deep
 

@@ -2,7 +2,7 @@ use Rattle.std.proofs.Common.{ap, string_bytes}
 use Rattle.trace_wire.specs.Registries.{Registry}
 use Rattle.dial9_trace_format.specs.DecodedFrames.{item_of}
 use Rattle.trace_events.specs.OwnedEvents.{owned_event}
-use Rattle.trace_lines.proofs.FrameLines.{named, frame_line}
+use Rattle.trace_lines.proofs.FrameLines.{frame_line}
 use Rattle.trace_lines.proofs.resolved.push_resolved_frame.Goals as goal
 
 pub returns : goal.returns
@@ -14,4 +14,4 @@ returns c =
       c.string_pool-strings.ensures,
       c.stack_pool-stacks.ensures,
     )
-    c.in-Some.ensures.event (ap (named e) c.name.ensures) c.push_event_in_full.ensures
+    c.in-Some.ensures.event c.owned_line_event.ensures c.push_event_in_full.ensures
