@@ -19,6 +19,19 @@ static const char *const LINES =
     "\"at\"=StackFrames:[0x10,0xff]\n"
     "end whole\n";
 
+static const char *const NAMED =
+    "trace version 1\n"
+    "event \"A\" timestamp_ns=1 \"a\"=Varint:7\n"
+    "event \"A\" timestamp_ns=2 \"b\"=Bool:true\n"
+    "end whole\n";
+
+/* A schema of one field. */
+static void named(trace_batch *b, uint16_t number, const char *field, uint8_t type) {
+    trace_schema(b, number, "A", 1);
+    trace_field(b, field, type);
+    trace_annotations(b, 0);
+}
+
 static void poll(trace_batch *b) {
     trace_schema(b, 7, "Poll", 4);
     trace_field(b, "worker", TRACE_VARINT);
@@ -101,6 +114,24 @@ int main(void) {
     trace_absent(&batch);
     expect(trace_record(batch.bytes, batch.length, trace, sizeof trace, &report) == TRACE_MISFIT && report.place == 5
                && report.detail == 1, "a number for a signed one");
+
+    /* a second schema of a name is refused in one batch, and written by the next: traces join */
+    batch.length = 0;
+    named(&batch, 1, "a", TRACE_U8);
+    trace_event(&batch, 1, 1, 1);
+    trace_number(&batch, 7);
+    size_t first = batch.length;
+    named(&batch, 2, "b", TRACE_BOOL);
+    trace_event(&batch, 2, 2, 1);
+    trace_boolean(&batch, true);
+    expect(trace_record(batch.bytes, batch.length, both, sizeof both, &report) == TRACE_CONFLICT && report.place == 2,
+           "two schemas of one name");
+    expect(trace_record(batch.bytes, first, both, sizeof both, &report) == TRACE_DONE, "the first");
+    size_t front = report.length;
+    expect(trace_record(batch.bytes + first, batch.length - first, both + front, sizeof both - front, &report)
+               == TRACE_DONE, "the second");
+    expect(trace_dump(both, front + report.length, true, lines, sizeof lines, &report) == TRACE_DONE, "dumped");
+    expect(report.length == strlen(NAMED) && !memcmp(lines, NAMED, report.length), "the lines of both");
 
     /* read back, an event at a time: the records of the batch again */
     batch.length = 0;

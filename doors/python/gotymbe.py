@@ -130,15 +130,20 @@ class Schema:
 
 
 class Batch:
-    """A batch that is gathered: events of schemas, whose texts and stacks are pooled once each."""
+    """A batch that is gathered: events of schemas, whose texts and stacks are pooled once each. All schemas of a name
+    are alike in one batch (`takes`)."""
 
     def __init__(self):
         self.clear()
 
     def clear(self):
         """No records."""
-        self._bytes, self._schemas, self._texts, self._stacks = bytearray(), {}, {}, {}
+        self._bytes, self._schemas, self._named, self._texts, self._stacks = bytearray(), {}, {}, {}, {}
         self.events = 0
+
+    def takes(self, schema):
+        """Whether no other schema of its name stands in the batch. Else the batch with it is refused (CONFLICT)."""
+        return id(schema) in self._schemas or self._named.get(schema.name, schema.record(0)) == schema.record(0)
 
     def add(self, schema, time, values):
         """An event of the schema at a time in nanoseconds. A value of `POOLED_STRING` is a text, one of
@@ -149,6 +154,7 @@ class Batch:
         if id(schema) not in self._schemas:
             # (kept beside its number, so that no other schema gets its identity)
             self._schemas[id(schema)] = (len(self._schemas), schema)
+            self._named.setdefault(schema.name, schema.record(0))
             self._bytes += schema.record(self._schemas[id(schema)][0])
         number = self._schemas[id(schema)][0]
         self._bytes += b"\x02" + _number(number, 2) + _number(time, 8) + _number(len(values), 2) + spelled
@@ -211,11 +217,15 @@ def record_batch(batch):
 
 
 def record(events):
-    """The trace of events, each a schema, a time in nanoseconds, and values."""
-    batch = Batch()
+    """The trace of events, each a schema, a time in nanoseconds, and values. Before a second schema of a name, one
+    trace ends and another begins: readers take them for one."""
+    batch, traces = Batch(), []
     for schema, time, values in events:
+        if not batch.takes(schema):
+            traces.append(record_batch(batch.bytes()))
+            batch.clear()
         batch.add(schema, time, values)
-    return record_batch(batch.bytes())
+    return b"".join([*traces, record_batch(batch.bytes())])
 
 
 def check(trace):

@@ -2,7 +2,7 @@
 
 use crate::door::record_batch;
 use crate::error::Error;
-use std::collections::HashMap;
+use std::collections::{HashMap, HashSet};
 use std::io::Write;
 
 /// The types of fields (docs/FORMAT.md, "Field types").
@@ -145,11 +145,13 @@ pub enum Value<'a> {
     Absent,
 }
 
-/// A batch that is gathered (docs/DOORS.md, "Batches").
+/// A batch that is gathered (docs/DOORS.md, "Batches"). All schemas of a name are alike in one batch
+/// ([`Batch::takes`]).
 #[derive(Debug, Default)]
 pub struct Batch {
     bytes: Vec<u8>,
     schemas: HashMap<Schema, u16>,
+    names: HashSet<String>,
     texts: HashMap<String, u32>,
     stacks: HashMap<Vec<u64>, u32>,
     events: usize,
@@ -175,9 +177,16 @@ impl Batch {
     pub fn clear(&mut self) {
         self.bytes.clear();
         self.schemas.clear();
+        self.names.clear();
         self.texts.clear();
         self.stacks.clear();
         self.events = 0;
+    }
+
+    /// Whether no other schema of its name stands in the batch. Else the batch with it is refused
+    /// ([`Cause::Conflict`](crate::Cause::Conflict)).
+    pub fn takes(&self, schema: &Schema) -> bool {
+        self.schemas.contains_key(schema) || !self.names.contains(schema.name())
     }
 
     /// Puts an event of the schema in, at a time in nanoseconds. Whether the values fit is told when the batch is
@@ -191,13 +200,21 @@ impl Batch {
     pub fn event(&mut self, schema: &Schema, time: u64, values: &[Value<'_>]) {
         let number = match self.schemas.get(schema) {
             Some(number) => *number,
-            None => {
-                let number = u16::try_from(self.schemas.len()).expect("at most 65,536 schemas in a batch");
-                schema.put(number, &mut self.bytes);
-                self.schemas.insert(schema.clone(), number);
-                number
-            }
+            None => self.define(schema),
         };
+        self.put_event(number, time, values);
+    }
+
+    // The record of a schema that is new, and its number.
+    fn define(&mut self, schema: &Schema) -> u16 {
+        let number = u16::try_from(self.schemas.len()).expect("at most 65,536 schemas in a batch");
+        schema.put(number, &mut self.bytes);
+        self.schemas.insert(schema.clone(), number);
+        self.names.insert(schema.name().to_owned());
+        number
+    }
+
+    fn put_event(&mut self, number: u16, time: u64, values: &[Value<'_>]) {
         for value in values {
             self.pool(value);
         }
@@ -241,7 +258,7 @@ impl Batch {
 }
 
 /// A recorder over any writer: it gathers events, and sends each full batch as a trace of its own. What it wrote is one
-/// trace after another, which readers take for one.
+/// trace after another, which readers take for one. A second schema of a name begins another batch.
 ///
 /// Events that were gathered and not sent are lost where the recorder is dropped: call [`Recorder::finish`].
 #[derive(Debug)]
@@ -262,10 +279,19 @@ impl<W: Write> Recorder<W> {
         Recorder { out, batch: Batch::new(), most }
     }
 
-    /// Records an event of the schema, at a time in nanoseconds. Where a batch is sent with it, and refused, the error
-    /// names the record, and nothing of the batch was written; it is dropped.
+    /// Records an event of the schema, at a time in nanoseconds. Where a batch is sent with it, or before it, and
+    /// refused, the error names the record, and nothing of the batch was written; it is dropped, with the event.
     pub fn event(&mut self, schema: &Schema, time: u64, values: &[Value<'_>]) -> Result<(), Error> {
-        self.batch.event(schema, time, values);
+        let number = match self.batch.schemas.get(schema) {
+            Some(number) => *number,
+            None => {
+                if self.batch.names.contains(schema.name()) {
+                    self.send()?;
+                }
+                self.batch.define(schema)
+            }
+        };
+        self.batch.put_event(number, time, values);
         if self.batch.as_bytes().len() >= self.most {
             return self.send();
         }
