@@ -10,7 +10,6 @@ use Rattle.gotymbe_plan.specs.declared.moments.Moment.{Moment}
 use Rattle.gotymbe_plan.specs.declared.moments.Moment.TheVariants.{Time, Date}
 use Rattle.gotymbe_plan.specs.declared.moments.Bound.{Bound}
 use Rattle.gotymbe_plan.specs.declared.moments.Bound.TheVariants.{Early, At, Late}
-use Rattle.gotymbe_plan.specs.Filters.{IsInRange}
 use Rattle.gotymbe_plan.specs.Moments.{IsBoundOf, IsBoundBy, IsAfterBound, IsBeforeBound, IsBetween, IsFilterOf}
 use Rattle.gotymbe_plan.specs.Moments.{IsNotBefore, IsNotAfter, IsDate, IsAnyDate, no_time_text}
 

@@ -24,6 +24,11 @@ pub record IsErrorEnding (place : ℕ) (kind : DecodeErrorKind) (ending : Ending
   pub memory : kind ≡ causes.OutOfMemory → ending ≡ OutOfMemory
   pub stop : kind ≢ causes.OutOfMemory → ending ≡ Stopped (record { place = place; cause = kind })
 
+-- the ending of an input that could not be read by this kind of error: want of memory, or that kind
+pub record IsUnreadEnding (kind : ErrorKind) (ending : Ending) : Type 0 where
+  pub memory : kind ≡ errors.OutOfMemory → ending ≡ OutOfMemory
+  pub unread : kind ≢ errors.OutOfMemory → ending ≡ Unread kind
+
 -- the ending of an input that was read to its end: without a header, after its last frame, or inside one
 abbrev pub rest_ending : Option ℕ → ℕ → ℕ → Ending
 rest_ending None position fed_len = Stopped (record { place = 0; cause = causes.NoHeader })
@@ -44,6 +49,11 @@ IsPlaceAlone ending = ⊥
 -- the cause is to be looked for in all bytes; not of standard input, which can't be read again
 abbrev pub LacksCause : Ending → List ℕ → Type 0
 LacksCause ending name = IsPlaceAlone ending × (name ≢ codes "-")
+
+-- the name of what an ending is told of: what was read, or what could not be written
+abbrev pub told_of : Ending → List ℕ → List ℕ → List ℕ
+told_of (Unwritten kind) read written = written
+told_of ending read written = read
 
 -- the ending of a dump that failed: for the output, for the input, or for want of memory
 abbrev pub failed_ending : Option ErrorKind → Option ErrorKind → Ending

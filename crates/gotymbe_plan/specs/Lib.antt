@@ -12,3 +12,6 @@ pub mod LastLines
 pub mod Pages
 pub mod Names
 pub mod OneLine
+pub mod Failures
+pub mod Gaps
+pub mod Tables

@@ -1,5 +1,5 @@
 -- The lines that tell what events add up to.
-use Rattle.std.specs.Prelude.{◌≡◌, ℕ, ◌==◌, cond, if◌then◌else◌, List, [], ◌∷◌, ◌++◌, codes, None, Some, unwrap_or}
+use Rattle.std.specs.Prelude.{ℕ, ◌==◌, cond, if◌then◌else◌, List, [], ◌++◌, codes, None, Some, unwrap_or}
 use Rattle.std.specs.List.{flat_map, enumerate_from, zip}
 use Rattle.std.specs.Fmt.{decimal}
 use Rattle.trace_wire.specs.Schemas.{Field}

@@ -1,12 +1,15 @@
 //! How the reading of an input ended: the status, and what is told of it.
 
-ghost use Rattle.std.specs.Prelude.{◌≡◌, ◌≢◌, ◌↔◌, ◌++◌, OnOk, IsTrue, codes, string_bytes};
+ghost use Rattle.std.specs.Prelude.{◌≡◌, ◌≢◌, ◌↔◌, ◌++◌, OnOk, IfErr, IsOk, IsTrue, codes, string_bytes};
 ghost use Rattle.trace_lines.specs.Appending.{AppendsText};
 ghost use Rattle.trace_lines.specs.Dumps.{failed_status};
 ghost use Rattle.gotymbe_plan.specs.Endings.{stop_ending, IsErrorEnding, dump_ending, HasStatus, stop_status};
 ghost use Rattle.gotymbe_plan.specs.Endings.{IsTold, AppendsLine, AppendsReason, AppendsStop};
 ghost use Rattle.gotymbe_plan.specs.Endings.{start_text, cause_text, rest_ending, LacksCause, IsPlaceAlone};
 ghost use Rattle.gotymbe_plan.specs.Endings.{IsConflict, AppendsUnfinished, HasTail, error_text, whole_line};
+ghost use Rattle.gotymbe_plan.specs.Endings.{IsUnreadEnding, told_of};
+ghost use Rattle.gotymbe_plan.specs.declared.ending.Ending.TheVariants.{Whole};
+ghost use Rattle.gotymbe_plan.specs.Failures.{line_ending};
 ghost use Rattle.gotymbe_plan.specs.OneLine.{AddsLine};
 
 use crate::names::push_name;
@@ -14,8 +17,12 @@ use crate::numbers::push_grouped;
 use dial9_trace_format::decoder::{DecodeError, DecodeErrorKind};
 use std::alloc::{AllocError, AllocFailed};
 use std::io::ErrorKind;
+use trace_fronts::salvaging::SalvageError;
 use trace_fronts::whole::Stop;
+use trace_json::growing::LineError;
 use trace_lines::dump::{CONFLICT, FAILED, NO_HEADER, STOPPED, WHOLE};
+use trace_lines::sent_lines::LineFault;
+use trace_stats::trace::StatsError;
 
 /// How the reading of an input ended.
 #[derive(Clone, Copy, Debug, PartialEq, Eq)]
@@ -60,6 +67,48 @@ impl<T: Drop> From<AllocFailed<T>> for Ending {
     }
 }
 
+impl From<SalvageError> for Ending {
+    ghost use Rattle.std.specs.Prelude.{◌≡◌};
+    ghost use Rattle.gotymbe_plan.specs.Failures.{salvage_ending};
+
+    ghost from_gives = { λ error ending. ending ≡ salvage_ending error };
+
+    fn from(error: SalvageError) -> Ending {
+        match error {
+            SalvageError::OutOfMemory => Ending::OutOfMemory,
+            SalvageError::Writer(kind) => Ending::Unwritten(kind),
+        }
+    }
+}
+
+impl From<StatsError> for Ending {
+    ghost use Rattle.std.specs.Prelude.{◌≡◌};
+    ghost use Rattle.gotymbe_plan.specs.Failures.{stats_ending};
+
+    ghost from_gives = { λ error ending. ending ≡ stats_ending error };
+
+    fn from(error: StatsError) -> Ending {
+        match error {
+            StatsError::OutOfMemory => Ending::OutOfMemory,
+            StatsError::Full => Ending::TooMuch,
+        }
+    }
+}
+
+impl From<LineError> for Ending {
+    ghost use Rattle.std.specs.Prelude.{◌≡◌};
+    ghost use Rattle.gotymbe_plan.specs.Failures.{json_ending};
+
+    ghost from_gives = { λ error ending. ending ≡ json_ending error };
+
+    fn from(error: LineError) -> Ending {
+        match error {
+            LineError::OutOfMemory => Ending::OutOfMemory,
+            LineError::Writer(kind) => Ending::Unwritten(kind),
+        }
+    }
+}
+
 impl Ending {
     /// That of a front with this stop, or of all bytes.
     pub fn of_stop(stop: Option<Stop>) -> Ending
@@ -98,6 +147,38 @@ impl Ending {
             Some(_) => Ending::Unfinished(position),
         }
     }
+
+    /// That of an input that could not be opened or read, by this kind of error.
+    pub fn of_unread(kind: ErrorKind) -> Ending
+        ensures { IsUnreadEnding kind result }
+    {
+        match kind {
+            ErrorKind::OutOfMemory => Ending::OutOfMemory,
+            _ => Ending::Unread(kind),
+        }
+    }
+
+    /// That of a line that was not held or not sent, where this kind of error came last from the writer. Where none
+    /// came, it took no more bytes.
+    pub fn of_line_fault(fault: LineFault, written: Option<ErrorKind>) -> Ending
+        ensures { result ≡ line_ending fault written }
+    {
+        match fault {
+            LineFault::OutOfMemory => Ending::OutOfMemory,
+            LineFault::Unsent => Ending::Unwritten(written.unwrap_or(ErrorKind::WriteZero)),
+        }
+    }
+
+    /// The ending as an error, unless all was read that was asked for.
+    pub fn unless_whole(self) -> Result<(), Ending>
+        ensures whole { IsOk result ↔ (self ≡ Whole) }
+        ensures failed { IfErr result (λ ending. ending ≡ self) }
+    {
+        match self {
+            Ending::Whole => Ok(()),
+            failed => Err(failed),
+        }
+    }
 }
 
 /// Whether the cause by which a file ends is to be looked for in all of its bytes: where they end inside a frame,
@@ -130,6 +211,16 @@ fn is_conflict(cause: DecodeErrorKind) -> bool
     ensures { IsTrue result ↔ IsConflict cause }
 {
     matches!(cause, DecodeErrorKind::Conflict(_))
+}
+
+/// The name of what an ending is told of: of the input, unless what was made of it could not be written.
+pub fn told_of<'a>(ending: Ending, read: &'a str, written: &'a str) -> &'a str
+    ensures { result.now ≡ told_of ending read.now written.now }
+{
+    match ending {
+        Ending::Unwritten(_) => written,
+        _ => read,
+    }
 }
 
 /// The ending of a dump with this status, where these kinds of errors came last from the input and from the output.
@@ -189,7 +280,7 @@ pub fn status_of(ending: Ending) -> u8
 }
 
 // The status of a trace that stops.
-fn stop_status(cause: DecodeErrorKind) -> u8
+pub(crate) fn stop_status(cause: DecodeErrorKind) -> u8
     ensures { result ≡ stop_status cause }
 {
     match cause {

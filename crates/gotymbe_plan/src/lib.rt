@@ -5,6 +5,7 @@
 pub mod ending;
 pub mod filter;
 pub mod following;
+pub mod gaps;
 pub mod last_line;
 pub mod merging;
 pub mod moments;
@@ -15,3 +16,4 @@ pub mod page;
 pub mod picking;
 pub mod progress;
 pub mod statistics;
+pub mod tables;

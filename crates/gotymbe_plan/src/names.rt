@@ -3,7 +3,7 @@
 ghost use Rattle.std.specs.Prelude.{◌≡◌};
 ghost use Rattle.std.specs.List.{list_any};
 ghost use Rattle.trace_lines.specs.Appending.{AppendsText};
-ghost use Rattle.gotymbe_plan.specs.Names.{told_name, is_odd};
+ghost use Rattle.gotymbe_plan.specs.Names.{told_name, is_odd, file_word};
 
 use std::alloc::AllocError;
 use trace_lines::text::push_quoted;
@@ -18,6 +18,16 @@ pub fn push_name(out: &mut String, name: &str) -> Result<(), AllocError>
         return push_quoted(out, name.as_bytes());
     }
     out.push_str(name)
+}
+
+/// Appends what stands before a line of a dump where several files are shown: the name of its file, always in quotes.
+/// `AllocError` where a growth was refused.
+pub fn push_file_word(out: &mut String, name: &str) -> Result<(), AllocError>
+    ensures { AppendsText (file_word name.now) out.old out.new result }
+{
+    out.push_str("file ")?;
+    push_quoted(out, name.as_bytes())?;
+    out.push(' ')
 }
 
 // Whether a byte stands in a name by which it is told in quotes.

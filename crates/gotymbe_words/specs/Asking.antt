@@ -8,6 +8,8 @@ use Rattle.clap.specs.declared.parser.matches.ArgMatches.{ArgMatches}
 use Rattle.clap.specs.declared.error.kind.ErrorKind.{ErrorKind}
 use Rattle.clap.specs.declared.error.kind.ErrorKind.TheVariants.{DisplayHelp, DisplayVersion, OutOfMemory}
 use Rattle.gotymbe_words.specs.declared.asked.Asked.{Asked}
+use Rattle.gotymbe_words.specs.declared.asked.Form.{Form}
+use Rattle.gotymbe_words.specs.declared.asked.Form.TheVariants as forms
 use Rattle.gotymbe_words.specs.declared.asked.Task.{Task}
 use Rattle.gotymbe_words.specs.declared.asked.Task.TheVariants.{Check, Dump, Json, Csv, Salvage, Join, Stats}
 use Rattle.gotymbe_words.specs.declared.asked.Task.TheVariants.{Fold, Cut, Follow, Page, Chrome}
@@ -76,3 +78,16 @@ pub record IsAsked (task : Task) (given : ArgMatches) (asked : Asked) : Type 0 w
 -- a time, a name or a number of events is said
 abbrev pub Selects : Asked → Type 0
 Selects asked = IsSome asked.from ⊎ (IsSome asked.to ⊎ (IsSome asked.limit ⊎ (asked.events.items ≢ [])))
+
+-- The form of the lines of a file: JSON where that is asked for. Of a dump they are those of its frames, unless some
+-- events alone are asked for or all are resolved.
+pub record HasForm (asked : Asked) (form : Option Form) : Type 0 where
+  pub json : asked.task ≡ Json → form ≡ Some forms.Json
+  pub selected : asked.task ≢ Json → Selects asked → form ≡ Some forms.Resolved
+  pub resolved : asked.task ≢ Json → ¬ Selects asked → asked.resolve ≡ true → form ≡ Some forms.Dump
+  pub frames : asked.task ≢ Json → ¬ Selects asked → asked.resolve ≡ false → form ≡ None
+
+-- the form of the lines of the events of several files in one order
+abbrev pub merged_form : Task → Form
+merged_form Json = forms.Json
+merged_form task = forms.Resolved

@@ -2,6 +2,7 @@
 
 ghost use Rattle.std.specs.Prelude.{◌≡◌, ◌↔◌, IsTrue, IfOk, map};
 ghost use Rattle.gotymbe_words.specs.Asking.{IsTaskNamed, IsAsked, values_of, IsNumberOf, Selects, status_by};
+ghost use Rattle.gotymbe_words.specs.Asking.{HasForm, merged_form};
 
 use clap::ArgMatches;
 use clap::error::ErrorKind;
@@ -34,6 +35,17 @@ pub enum Task {
     Page,
     /// Writes the entries that viewers of Chrome's format open.
     Chrome,
+}
+
+/// How events are written.
+#[derive(Clone, Copy, Debug, PartialEq, Eq)]
+pub enum Form {
+    /// As lines of JSON.
+    Json,
+    /// As lines of a dump, resolved.
+    Resolved,
+    /// As a resolved dump, with its first and its last line.
+    Dump,
 }
 
 /// What the words of a call ask for.
@@ -77,6 +89,32 @@ impl Asked<'_> {
         ensures { IsTrue result ↔ Selects self.now }
     {
         self.from.is_some() || self.to.is_some() || self.limit.is_some() || !self.events.is_empty()
+    }
+
+    /// The form of the lines of a file's events; `None` where the lines are those of its frames.
+    pub fn form(&self) -> Option<Form>
+        ensures { HasForm self.now result }
+    {
+        if self.task == Task::Json {
+            return Some(Form::Json);
+        }
+        if self.selects() {
+            return Some(Form::Resolved);
+        }
+        if self.resolve {
+            return Some(Form::Dump);
+        }
+        None
+    }
+
+    /// The form of the lines of the events of several files in one order.
+    pub fn merged_form(&self) -> Form
+        ensures { result ≡ merged_form self.now.task }
+    {
+        match self.task {
+            Task::Json => Form::Json,
+            _ => Form::Resolved,
+        }
     }
 }
 

@@ -1,4 +1,4 @@
-use Rattle.std.proofs.Common.{ℕ, ◌<◌, length, arith}
+use Rattle.std.proofs.Common.{◌<◌, length, arith}
 use Rattle.gotymbe_plan.proofs.StatisticsLemmas.{no_lines}
 use Rattle.gotymbe_plan.proofs.statistics.+pairs.Goals as goal
 

@@ -1,4 +1,4 @@
-use Rattle.std.proofs.Common.{ℕ, ◌+◌, ◌*◌, length}
+use Rattle.std.proofs.Common.{◌+◌, ◌*◌, length}
 use Rattle.gotymbe_plan.proofs.statistics.+pairs.Given as goal
 
 abbrev pub decreases-push_fields : goal.decreases-push_fields
