@@ -4,7 +4,9 @@ mod CountLemmas
 mod CutLines
 mod FrameLemmas
 mod Nesting
+mod Numbering
 mod Numerals
+mod ReadBack
 mod RefusedSends
 mod Spacing
 mod Taking

@@ -14,14 +14,14 @@ use Rattle.trace_chrome.specs.Steps.{first_by, frame_of, frames_after, track_num
 use Rattle.trace_chrome.specs.Tracks.{Track}
 use Rattle.trace_chrome.specs.Sending.{SendsEvent, SendsHeld}
 use Rattle.trace_chrome.specs.Sending.{ending_text, SendsAll, events_taken, first_time}
-use Rattle.trace_chrome.specs.Sending.{last_time, frames_over, AreTaken, TextIsSent}
+use Rattle.trace_chrome.specs.Sending.{last_time, frames_over, AreTaken, BeginsText, SendsText, TextIsSent}
 use Rattle.trace_chrome.specs.declared.trace.ChromeTrace.{ChromeTrace}
 use Rattle.trace_chrome.specs.declared.sending.ChromeText.{ChromeText}
 
 -- ---- steps
 
 -- the events that were taken
-abbrev events : List TakenEvent → List ShownEvent
+abbrev pub events : List TakenEvent → List ShownEvent
 events xs = map (λ x. x.event) xs
 
 -- the first time, where a trace may have one already
@@ -180,8 +180,17 @@ joined from es fs head tail sent kept ending front is =
     ∙ ap (λ (l : List ℕ). head ++ l)
     (sym (append_assoc first last tail) ∙ ap (λ (l : List ℕ). l ++ tail) (sym (flat_map-append f es fs)))
 
-pub text_is_sent : TextIsSent
-text_is_sent name steps a c x y z begins all end =
+-- what was sent of a whole run, and the tracks and frames after it
+pub record Whole (name : List ℕ) (steps : List (Option ShownEvent)) (c : ChromeText) (x z : Account) : Type 0 where
+  pub text : SendsText name (events_taken steps) x z
+  pub tracks : c.trace.tracks.items ≡ tracks_over text.taken []
+  pub frames : c.trace.frames.all.keys ≡ frames_over (events text.taken) []
+
+-- from its beginning over any steps to its end a text is sent whole
+pub whole_sent :
+    (name : List ℕ) (steps : List (Option ShownEvent)) (a c : ChromeText) (x y z : Account) → BeginsText name a →
+    SendsAll steps a c x y → TookOnly y z (c.held.items ++ ending_text c.trace) [] → Whole name steps c x z
+whole_sent name steps a c x y z begins all end =
     let i = all_came steps a c x y all in
     let new = begins.trace in
     let es = events i.taken in
@@ -193,16 +202,23 @@ text_is_sent name steps a c x y z begins all end =
     ∙ ap (λ (l : List Track). a.held.items ++ entries_text from (entries_over i.taken l)) (sym new.tracks)
     ∙ ap (λ (n : ℕ). a.held.items ++ entries_text n (entries_over i.taken a.trace.tracks.items)) (sym begun)
     ∙ i.bytes in
+    let tracks = i.tracks ∙ ap (λ (l : List Track). tracks_over i.taken l) new.tracks in
+    let frames = i.frames ∙ ap (λ (l : List Frame). frames_over es l) new.frames in
     let ends = ending_is c.trace from (last_time 0 es) (tracks_over i.taken []) (frames_over es []) (i.start ∙ begun)
-    (i.last ∙ ap (λ (n : ℕ). last_time n es) new.last)
-    (i.tracks ∙ ap (λ (l : List Track). tracks_over i.taken l) new.tracks)
-    (i.frames ∙ ap (λ (l : List Frame). frames_over es l) new.frames) in
+    (i.last ∙ ap (λ (n : ℕ). last_time n es) new.last) tracks frames in
     record {
-      taken = i.taken;
-      events = i.are;
-      told = after_moves i.taken new.tracks new.frames new.sums i.told;
-      sent = subst (λ (l : List ℕ). TookOnly x z l [])
-          (joined from entries (closings (last_time 0 es) (tracks_over i.taken [])) (head_text name)
-          (tail_text from (frames_over es [])) i.sent c.held.items (ending_text c.trace) front ends)
-          (TookOnly-join x y z i.sent (c.held.items ++ ending_text c.trace) [] [] i.took end);
+      text = record {
+        taken = i.taken;
+        events = i.are;
+        told = after_moves i.taken new.tracks new.frames new.sums i.told;
+        sent = subst (λ (l : List ℕ). TookOnly x z l [])
+            (joined from entries (closings (last_time 0 es) (tracks_over i.taken [])) (head_text name)
+            (tail_text from (frames_over es [])) i.sent c.held.items (ending_text c.trace) front ends)
+            (TookOnly-join x y z i.sent (c.held.items ++ ending_text c.trace) [] [] i.took end);
+      };
+      tracks = tracks;
+      frames = frames;
     }
+
+pub text_is_sent : TextIsSent
+text_is_sent name steps a c x y z begins all end = (whole_sent name steps a c x y z begins all end).text

@@ -1,18 +1,22 @@
 -- What is sent of a trace, as its events come.
 use Rattle.std.specs.Prelude.{◌≡◌, ◌<◌, ⊤, ℕ, List, [], ◌∷◌, ◌++◌, Option, None, Some, length, map, max}
+use Rattle.std.specs.List.{All, AllByRecursion}
+use Rattle.json.specs.Json.{Json}
 use Rattle.dial9_trace_format.specs.ShownEvents.{ShownEvent}
 use Rattle.trace_values.specs.Sending.{Account, TookOnly}
 use Rattle.trace_values.specs.Encoding.{SendFails}
 use Rattle.trace_json.specs.EventJson.{IsEventJson}
+use Rattle.trace_json.specs.Laws.{IsOfRun}
 use Rattle.trace_json.specs.Lines.{IsLineOf, line_feed}
 use Rattle.trace_chrome.specs.Counters.{Sum, AreCounts, sums_of}
-use Rattle.trace_chrome.specs.Entries.{head_text, entries_text, tail_text}
+use Rattle.trace_chrome.specs.Entries.{Entry, head_text, entries_text, tail_text}
 use Rattle.trace_chrome.specs.Frames.{Frame}
 use Rattle.trace_chrome.specs.Labels.{end_time}
 use Rattle.trace_chrome.specs.Laws.{TakenEvent, entries_over, tracks_over}
 use Rattle.trace_chrome.specs.Slices.{closings}
 use Rattle.trace_chrome.specs.Steps.{Takes, first_by, frame_of, frames_after, track_number, tracks_after}
 use Rattle.trace_chrome.specs.Tracks.{Track}
+use Rattle.trace_chrome.specs.Trees.{IsSmall, IsEntryOf, ReadsBackAs, whole_json}
 use Rattle.trace_chrome.specs.declared.trace.ChromeTrace.{ChromeTrace}
 use Rattle.trace_chrome.specs.declared.sending.ChromeText.{ChromeText}
 use Rattle.trace_chrome.specs.declared.sending.ChromeError.{ChromeError}
@@ -56,6 +60,11 @@ pub record SendsHeld (old new : ChromeText) (before after : Account) : Type 0 wh
   pub trace : new.trace ≡ old.trace
   pub held : new.held.items ≡ []
   pub took : TookOnly before after old.held.items []
+
+-- as many tracks and frames as 64 bits can number
+pub record IsNumbered (trace : ChromeTrace) : Type 0 where
+  pub tracks : IsSmall (length trace.tracks.items)
+  pub frames : IsSmall (length trace.frames.all.keys)
 
 -- what stands after the entries of the events: the ends of the slices that are open, and the tail
 abbrev pub ending_text : ChromeTrace → List ℕ
@@ -130,13 +139,16 @@ AreTaken (x ∷ xs) ts fs sums =
     × AreTaken xs (tracks_after x.event ts) (frames_after x.event fs)
     (sums_of x.event (track_number x.event ts) sums)
 
+-- the entries of events, and the ends of the slices that are open after them
+abbrev pub all_entries : List TakenEvent → List Entry
+all_entries xs = entries_over xs [] ++ closings (last_time 0 (map (λ x. x.event) xs)) (tracks_over xs [])
+
 -- the text of events, from the head to the tail
 abbrev pub whole_text : List ℕ → List TakenEvent → List ℕ
 whole_text name xs =
     let es = map (λ x. x.event) xs in
     let from = first_time es in
-    head_text name ++ (entries_text from (entries_over xs [] ++ closings (last_time 0 es) (tracks_over xs []))
-    ++ tail_text from (frames_over es []))
+    head_text name ++ (entries_text from (all_entries xs) ++ tail_text from (frames_over es []))
 
 -- The text of these events was sent, and nothing else.
 pub record SendsText (name : List ℕ) (es : List ShownEvent) (before after : Account) : Type 0 where
@@ -152,3 +164,20 @@ TextIsSent =
     BeginsText name first → SendsAll steps first last before between →
     TookOnly between after (last.held.items ++ ending_text last.trace) [] →
     SendsText name (events_taken steps) before after
+
+-- The text of events is read back as the JSON of all entries, each with the JSON of its event.
+pub record TextIsReadBack (name : List ℕ) (xs : List TakenEvent) : Type 0 where
+  pub entries : List (Entry × Json)
+  pub are : map (λ p. p.0) entries ≡ all_entries xs
+  pub events : AllByRecursion (λ p. IsEntryOf p.0 p.1) entries
+  pub reads_back : ReadsBackAs (whole_text name xs)
+      (whole_json name (first_time (map (λ x. x.event) xs)) entries (frames_over (map (λ x. x.event) xs) []))
+
+-- Where the events are of runs, the text that is sent is read back so.
+abbrev pub SentReadsBack : Type 0
+SentReadsBack =
+    (name : List ℕ) (steps : List (Option ShownEvent)) (first last : ChromeText) (before between after : Account) →
+    BeginsText name first → SendsAll steps first last before between →
+    TookOnly between after (last.held.items ++ ending_text last.trace) [] → IsNumbered last.trace →
+    All IsOfRun (events_taken steps) →
+    (sent : SendsText name (events_taken steps) before after) × TextIsReadBack name sent.taken

@@ -1,11 +1,12 @@
 //! Frames of stacks.
 
-ghost use Rattle.std.specs.Prelude.{◌≡◌, [], IfOk, OnOk, decimal};
+ghost use Rattle.std.specs.Prelude.{◌≡◌, [], IfOk, OnOk, decimal, length};
 ghost use Rattle.std.specs.List.{flat_map};
 ghost use Rattle.trace_json.specs.Lines.{json_text};
 ghost use Rattle.trace_json.specs.parts.Put.{PutsTokens, Puts, member_tokens};
 ghost use Rattle.trace_chrome.specs.Frames.{number_of, with_frame, number_of_stack, with_stack, frames_json};
 ghost use Rattle.trace_chrome.specs.Frames.{parent_members, frame_members, frame_json};
+ghost use Rattle.trace_chrome.specs.Trees.{IsSmall};
 
 use indexmap::IndexSet;
 use json::Writer;
@@ -61,7 +62,9 @@ impl Frames {
     /// What a viewer is told of them: an object in which each stands under its number. `AllocError` where a growth was
     /// refused.
     pub(crate) fn text(&self, alloc: Global) -> Result<Vec<u8>, AllocError>
-        ensures { IfOk result (λ text. text.items ≡ json_text (frames_json self.now.all.keys)) }
+        ensures text { IfOk result (λ text. text.items
+            ≡ json_text (frames_json self.now.all.keys)) }
+        ensures few { OnOk result (IsSmall (length self.now.all.keys)) }
     {
         let mut out = Writer::new(Vec::new(alloc));
         put_frames(alloc, &mut out, self.all.as_slice())?;
@@ -72,6 +75,7 @@ impl Frames {
 // Writes frames as an object, in which each stands under its number.
 fn put_frames(alloc: Global, out: &mut Writer, frames: &[(usize, u64)]) -> Result<(), AllocError>
     ensures tokens { Puts (frames_json frames.now) out.old out.new result }
+    ensures few { OnOk result (IsSmall (length frames.now)) }
     ensures before { out.new.before ≡ out.old.before }
 {
     out.begin_object()?;
@@ -83,6 +87,7 @@ fn put_frames(alloc: Global, out: &mut Writer, frames: &[(usize, u64)]) -> Resul
 fn put_members(alloc: Global, out: &mut Writer, frames: &[(usize, u64)]) -> Result<(), AllocError>
     ensures tokens { PutsTokens (flat_map member_tokens (frame_members 1 frames.now)) out.old
         out.new result }
+    ensures few { OnOk result (IsSmall (length frames.now)) }
     ensures before { out.new.before ≡ out.old.before }
 {
     'frames: for index in 0..frames.len() {

@@ -1,7 +1,7 @@
 //! What holds of the entries of traces, and of their texts.
 
 ghost use Rattle.trace_chrome.specs.Laws.{IsToldOnce, SlicesNest};
-ghost use Rattle.trace_chrome.specs.Sending.{TextIsSent};
+ghost use Rattle.trace_chrome.specs.Sending.{SentReadsBack, TextIsSent};
 ghost use Rattle.trace_chrome.specs.Trees.{TextReadsBack};
 
 /// The entries of an event tell it once.
@@ -23,4 +23,10 @@ pub fn reads_back()
 /// place.
 pub fn text_is_sent()
     ensures { TextIsSent }
+{}
+
+/// Where the events are of runs, the text that is sent is read back as the tree of its entries, each with the JSON of
+/// its event.
+pub fn sent_reads_back()
+    ensures { SentReadsBack }
 {}

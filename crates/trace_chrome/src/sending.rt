@@ -4,7 +4,7 @@ ghost use Rattle.std.specs.Prelude.{◌++◌, [], IfErr, IfOk, OnOk};
 ghost use Rattle.trace_values.specs.Sending.{TookOnly};
 ghost use Rattle.trace_events.specs.OwnedEvents.{owned_event};
 ghost use Rattle.trace_chrome.specs.Sending.{BeginsText, SendsEvent, SendsHeld, HoldsLittle, ending_text};
-ghost use Rattle.trace_chrome.specs.Sending.{EventFails, HeldFails, EndFails};
+ghost use Rattle.trace_chrome.specs.Sending.{EventFails, HeldFails, EndFails, IsNumbered};
 
 use crate::trace::ChromeTrace;
 use std::alloc::{AllocError, Global};
@@ -103,6 +103,7 @@ impl ChromeText {
     pub fn finish<W: TraceWrite>(&mut self, out: &mut W) -> Result<(), ChromeError>
         ensures sent { OnOk result (TookOnly (W.told out.old) (W.told out.new)
             (self.old.held.items ++ ending_text self.old.trace) []) }
+        ensures numbered { OnOk result (IsNumbered self.old.trace) }
         ensures refused { IfErr result (EndFails W.told self.old out.old out.new) }
     {
         self.trace.push_tail(&mut self.held)?;

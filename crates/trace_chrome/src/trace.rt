@@ -8,7 +8,9 @@ ghost use Rattle.trace_chrome.specs.Labels.{what_of, event_name};
 ghost use Rattle.trace_chrome.specs.Tracks.{new_track, number_of, with_track, track_at};
 ghost use Rattle.trace_chrome.specs.Entries.{names, entries_text, head_text, tail_text, Appends};
 ghost use Rattle.trace_chrome.specs.Slices.{naming, own_by, ends_by, tracks_by, closings};
+ghost use Rattle.trace_chrome.specs.Sending.{IsNumbered};
 ghost use Rattle.trace_chrome.specs.Steps.{first_by, frame_of, frames_after, Takes};
+ghost use Rattle.trace_chrome.specs.Trees.{IsSmall};
 ghost use Rattle.trace_chrome.specs.parts.Shapes.{told_view};
 
 use crate::counters::{Sum, push_counters};
@@ -75,7 +77,7 @@ impl ChromeTrace {
             (Takes (owned_event event.now) self.old self.new out.old.items out.new.items) }
     {
         let at = event.timestamp_ns;
-        let from = first_time(self.start, at);
+        let from = self.start.unwrap_or(at);
         self.start = Some(from);
         self.last = later(self.last, end_by(at, what_of(event)));
         let json = event_json(self.alloc, event)?;
@@ -90,25 +92,16 @@ impl ChromeTrace {
     /// Appends the ends of the slices that are open, and what stands after the entries. `AllocError` where a growth was
     /// refused.
     pub fn push_tail(&self, out: &mut Vec<u8>) -> Result<(), AllocError>
-        ensures { Appends (entries_text (first_by self.now.start 0)
+        ensures text { Appends (entries_text (first_by self.now.start 0)
             (closings self.now.last self.now.tracks.items)
             ++ tail_text (first_by self.now.start 0) self.now.frames.all.keys)
             out.old.items out.new.items result }
+        ensures numbered { OnOk result (IsNumbered self.now) }
     {
-        let from = first_time(self.start, 0);
+        let from = self.start.unwrap_or(0);
         let frames = self.frames.text(self.alloc)?;
         push_closings(self.alloc, out, self.tracks.as_slice(), from, self.last)?;
         push_tail(self.alloc, out, from, &frames)
-    }
-}
-
-// The first time, where this one is a later one.
-fn first_time(start: Option<u64>, at: u64) -> u64
-    ensures { result ≡ first_by start at }
-{
-    match start {
-        Some(start) => start,
-        None => at,
     }
 }
 
@@ -253,8 +246,9 @@ fn push_closings(
     from: u64,
     at: u64,
 ) -> Result<(), AllocError>
-    ensures { Appends (entries_text from (closings at tracks.now)) out.old.items out.new.items
-        result }
+    ensures text { Appends (entries_text from (closings at tracks.now)) out.old.items
+        out.new.items result }
+    ensures few { OnOk result (IsSmall (length tracks.now)) }
 {
     'tracks: for track in 0..tracks.len() {
         let count = tracks[track].depth();

@@ -1,7 +1,7 @@
 -- How deep the JSON of a value nests, and so that of an event.
-use Rattle.std.proofs.Common.{◌≡◌, ◌≤◌, ℕ, ◌+◌, ◌*◌, Bool, true, false, List, [], ◌∷◌, Option, Some, None}
+use Rattle.std.proofs.Common.{◌≡◌, ◌<◌, ◌≤◌, ℕ, ◌+◌, ◌*◌, ◌^◌, Bool, true, false, List, [], ◌∷◌, Option, Some, None}
 use Rattle.std.proofs.Common.{map as list_map, sym, ap, subst, arith, inl, inr, drop, if◌then◌else◌}
-use Rattle.std.specs.List.{All}
+use Rattle.std.specs.List.{All, Contains}
 use Rattle.std.specs.FinMap as finmap
 use Rattle.std.specs.Str.{is_utf8}
 use Rattle.std.specs.Bool.{MatchBool}
@@ -9,14 +9,15 @@ use Rattle.std.specs.Float.{float_is_finite}
 use Rattle.std.specs.Float.Ieee.{binary64}
 use Rattle.std.specs.Prelude.{from_bits}
 use Rattle.std.specs.Option.{unwrap_or}
-use Rattle.json.specs.Json.{Json, string, number, null, max_depth}
+use Rattle.json.specs.Json.{Json, string, number, null}
 use Rattle.json.specs.Tree.{depth, items_depth, members_depth}
 use Rattle.trace_values.specs.declared.types.field_type.FieldType.{FieldType}
 use Rattle.trace_values.specs.FieldTypes.{is_optional}
 use Rattle.trace_values.specs.Values.{Value, Kind, Items, Pairs, IsValue, AreItems, ArePairs, IsField, IsFieldBy}
 use Rattle.trace_values.specs.Values.{AreFields}
 use Rattle.trace_values.specs.Values as values
-use Rattle.std.proofs.lemmas.List.Elements.{All-append, All-cons, All-nil}
+use Rattle.std.proofs.lemmas.List.Elements.{All-append, All-cons, All-nil, All-weaker, All-contains}
+use Rattle.std.proofs.lemmas.List.Elements.{All-contains_itself}
 use Rattle.trace_wire.specs.Schemas.{WireType, types_of}
 use Rattle.trace_wire.specs.WireTypes.{entry_of}
 use Rattle.trace_wire.specs.Frames.{Grammar, Frame, IsFrame}
@@ -27,8 +28,8 @@ use Rattle.dial9_trace_format.specs.Sinks.{events_of, event_of, event_by}
 use Rattle.trace_json.specs.EventJson.{items_of, members_of, list_json, object_json, bytes_json}
 use Rattle.trace_json.specs.EventJson.{text_pair_json, address_json, pooled_text_json, pooled_stack_json}
 use Rattle.trace_json.specs.EventJson.{special_text, IsNumeralOf, IsFloatJson, IsValueJson, AreItemsJson}
-use Rattle.trace_json.specs.EventJson.{ArePairsJson, AreFieldsJson, event_json}
-use Rattle.trace_json.specs.Laws.{IsShallow, RunIsShallow}
+use Rattle.trace_json.specs.EventJson.{ArePairsJson, AreFieldsJson, IsEventJson, event_json}
+use Rattle.trace_json.specs.Laws.{IsShallow, RunIsShallow, IsOfRun, RunHasEvents}
 
 along : (j i : Json) (n : ℕ) → j ≡ i → depth i ≤ n → depth j ≤ n
 along j i n same le = subst (λ (x : Json). depth x ≤ n) (sym same) le
@@ -156,23 +157,35 @@ fields_depth p k names (t ∷ ts) b (v ∷ vs) ms h is =
     subst (λ (l : List (List ℕ × Json)). members_depth (members_of l) ≤ 67) (sym is.2) (omega arith)
 
 event_depth :
-    (name : List ℕ) (time : ℕ) (fields : Json) → depth fields ≤ 68 → depth (event_json name time fields) ≤ max_depth
+    (name : List ℕ) (time : ℕ) (fields : Json) → depth fields ≤ 68 → depth (event_json name time fields) ≤ 69
 event_depth name time fields le = omega arith
 
--- an event whose values are fields as they are spelled
-shown_depth : (k : Kind) (ts : List FieldType) (b : List ℕ) (e : ShownEvent) → AreFields k ts b e.values → IsShallow e
-shown_depth k ts b e h j is =
+-- an event of a run: its values are fields as they are spelled, and its time has 64 bits
+pub record IsSpelled (e : ShownEvent) : Type 0 where
+  pub kind : Kind
+  pub types : List FieldType
+  pub bytes : List ℕ
+  pub fields : AreFields kind types bytes e.values
+  pub time : e.time < 2 ^ 64
+
+-- what JSON such an event is nests so deep
+pub spelled_depth : (e : ShownEvent) → IsSpelled e → (j : Json) → IsEventJson e j → depth j ≤ 69
+spelled_depth e s j is =
     let ms = is.1.0 in
-    let inside : members_depth (members_of ms) ≤ 67 = fields_depth e.pools k _ ts b e.values ms h is.1.1 in
+    let inside : members_depth (members_of ms) ≤ 67 = fields_depth e.pools s.kind _ s.types s.bytes e.values ms
+    s.fields is.1.1 in
     let object : depth (object_json ms) ≤ 68 = omega arith in
-    along j (event_json e.name e.time is.0) max_depth is.2
+    along j (event_json e.name e.time is.0) 69 is.2
     (event_depth e.name e.time is.0 (along is.0 (object_json ms) 68 is.1.2 object))
+
+spelled_shallow : (e : ShownEvent) → IsSpelled e → IsShallow e
+spelled_shallow e s j is = omega (arith, spelled_depth e s j is)
 
 -- ---- runs
 
 event_here :
     (k : Kind) (g : Grammar) (p : Pools) (bytes : List ℕ) (f : Frame) → IsFrame k g bytes f →
-    All IsShallow (event_of g p f)
+    All IsSpelled (event_of g p f)
 event_here k g p bytes (frames.Event id time vs) h =
     let w = h.0 in
     let e : ShownEvent = record {
@@ -183,23 +196,51 @@ event_here k g p bytes (frames.Event id time vs) h =
       entry = entry_of w;
       pools = p;
     } in
-    subst (λ (o : Option WireType). All IsShallow (event_by o p id time vs)) (sym h.1)
-    (All-cons IsShallow e [] (shown_depth k (types_of w.shape.fields) h.2.spelled e h.2.values_are)
-    (All-nil IsShallow))
-event_here k g p bytes f h = All-nil IsShallow
+    let s : IsSpelled e = record {
+      kind = k;
+      types = types_of w.shape.fields;
+      bytes = h.2.spelled;
+      fields = h.2.values_are;
+      time = h.2.time_fits;
+    } in
+    subst (λ (o : Option WireType). All IsSpelled (event_by o p id time vs)) (sym h.1)
+    (All-cons IsSpelled e [] s (All-nil IsSpelled))
+event_here k g p bytes f h = All-nil IsSpelled
 
-run_shallow :
+run_spelled :
     (kinds : List Kind) (g : Grammar) (bytes : List ℕ) (fs : List Frame) (last : Grammar) (p : Pools) →
-    IsRun kinds g bytes fs last → All IsShallow (events_of g p fs)
-run_shallow [] g bytes [] last p h = All-nil IsShallow
-run_shallow (k ∷ ks) g bytes [] last p h = absurd h
-run_shallow [] g bytes (f ∷ fs) last p h = absurd h
-run_shallow (k ∷ ks) g bytes (f ∷ fs) last p h =
+    IsRun kinds g bytes fs last → All IsSpelled (events_of g p fs)
+run_spelled [] g bytes [] last p h = All-nil IsSpelled
+run_spelled (k ∷ ks) g bytes [] last p h = absurd h
+run_spelled [] g bytes (f ∷ fs) last p h = absurd h
+run_spelled (k ∷ ks) g bytes (f ∷ fs) last p h =
     let next : stepped g f ≡ h.2 = ap (λ (o : Option Grammar). unwrap_or o g) h.5 in
-    All-append IsShallow (event_of g p f) (events_of (stepped g f) (pooled p f) fs) (event_here k g p h.0 f h.4)
-    (subst (λ (n : Grammar). All IsShallow (events_of n (pooled p f) fs)) (sym next)
-    (run_shallow ks h.2 h.1 fs last (pooled p f) h.6))
+    All-append IsSpelled (event_of g p f) (events_of (stepped g f) (pooled p f) fs) (event_here k g p h.0 f h.4)
+    (subst (λ (n : Grammar). All IsSpelled (events_of n (pooled p f) fs)) (sym next)
+    (run_spelled ks h.2 h.1 fs last (pooled p f) h.6))
 
 -- values of a run are of few levels
 pub run_is_shallow : RunIsShallow
-run_is_shallow = run_shallow
+run_is_shallow kinds g bytes fs last p h =
+    All-weaker IsSpelled IsShallow spelled_shallow (events_of g p fs) (run_spelled kinds g bytes fs last p h)
+
+-- an event of a run is spelled in its bytes
+pub event_spelled : (e : ShownEvent) → IsOfRun e → IsSpelled e
+event_spelled e i =
+    All-contains IsSpelled (events_of i.grammar i.pools i.frames) e
+    (run_spelled i.kinds i.grammar i.bytes i.frames i.last i.pools i.run) i.among
+
+-- the events of a run are of it
+pub run_has_events : RunHasEvents
+run_has_events kinds g bytes fs last p h =
+    All-weaker (Contains (events_of g p fs)) IsOfRun
+    (λ e among. record {
+      kinds = kinds;
+      grammar = g;
+      bytes = bytes;
+      frames = fs;
+      last = last;
+      pools = p;
+      run = h;
+      among = among;
+    }) (events_of g p fs) (All-contains_itself (events_of g p fs))

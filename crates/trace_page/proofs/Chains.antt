@@ -39,17 +39,22 @@ pub member_is : (old : List Token) {new : List Token} (name : List ℕ) (i j : J
     new ≡ old ++ member_tokens (name, i) → new ≡ old ++ member_tokens (name, j)
 member_is old name i j same e = e ∙ ap (λ (x : Json). old ++ member_tokens (name, x)) same
 
+-- a member was written by its name and its value, which may be told otherwise
+pub member_put :
+    {E : Type 0} (r : Result (Unit {0}) E) (old : List Token) (name : List ℕ) (i j : Json) {one : List Token}
+    (new : List Token) → i ≡ j → one ≡ old ++ key name ∷ [] → OnOk r (new ≡ one ++ json_tokens i) →
+    OnOk r (new ≡ old ++ member_tokens (name, j))
+member_put r old name i j {one} new same put e =
+    on_ok_weaker r (λ (p : new ≡ one ++ json_tokens i).
+    p ∙ ap (λ (t : List Token). t ++ json_tokens i) put ∙ append_assoc old (key name ∷ []) (json_tokens i)
+    ∙ ap (λ (x : Json). old ++ member_tokens (name, x)) same) e
+
 -- the tokens of a list's items, and its last bracket
 pub list_tokens : (js : List Json) → items_tokens (items_of js) ≡ flat_map json_tokens js ++ end_array ∷ []
 list_tokens [] = refl
 list_tokens (j ∷ js) =
     ap (λ (t : List Token). json_tokens j ++ t) (list_tokens js)
     ∙ sym (append_assoc (json_tokens j) (flat_map json_tokens js) (end_array ∷ []))
-
--- JSON that is told otherwise
-pub json_is : (old : List Token) {new : List Token} (i j : Json) → i ≡ j → new ≡ old ++ json_tokens i →
-    new ≡ old ++ json_tokens j
-json_is old i j same e = e ∙ ap (λ (x : Json). old ++ json_tokens x) same
 
 -- a member that is a list was written from its name to its last bracket
 pub list_member :

@@ -15,3 +15,4 @@ pub mod Assembled
 pub mod Told
 pub mod Floats
 pub mod KindsPut
+mod Shallow

@@ -1,11 +1,12 @@
 -- What JSON the data of a page is, and its text.
 use Rattle.std.specs.Prelude.{◌≡◌, ◌≤◌, ℕ, List, [], ◌∷◌, ◌++◌, Option, Some, codes, get_or, map as list_map}
 use Rattle.std.specs.Fmt.{decimal}
-use Rattle.std.specs.List.{AllZip}
+use Rattle.std.specs.List.{All, AllZip}
 use Rattle.json.specs.Json.{Json, number, string, document, max_depth}
 use Rattle.json.specs.Tree.{depth}
 use Rattle.trace_values.specs.AddressTexts.{address_text}
 use Rattle.trace_json.specs.EventJson.{list_json, object_json}
+use Rattle.trace_json.specs.Laws.{IsOfRun}
 use Rattle.trace_json.specs.Lines.{json_text}
 use Rattle.trace_page.specs.Counting.{PageEvent, AreCounted}
 use Rattle.trace_page.specs.Escaping.{escaped}
@@ -68,3 +69,10 @@ pub record IsPageText (files : List PageFile) (name : List ℕ) (end : Option (L
   pub is_page : IsPageJson files name end json
   pub is : text ≡ json_text json
   pub reads_back : depth json ≤ max_depth → document (escaped text) ≡ Some json
+
+-- where all events are of runs, it is read back as the data
+abbrev pub PageReadsBack : Type 0
+PageReadsBack =
+    (files : List PageFile) (name : List ℕ) (end : Option (List ℕ)) (text : List ℕ) →
+    All (λ e. IsOfRun e.shown) (events_of files) → (page : IsPageText files name end text) →
+    document (escaped text) ≡ Some page.json

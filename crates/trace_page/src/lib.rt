@@ -5,6 +5,7 @@ mod clocks;
 mod columns;
 pub mod data;
 pub mod escaping;
+pub mod laws;
 mod names;
 mod numbers;
 mod schemas;

@@ -7,6 +7,8 @@ ghost use Rattle.trace_json.specs.parts.Put.{PutsTokens};
 ghost use Rattle.trace_page.specs.Files.{clock_json};
 ghost use Rattle.trace_page.specs.Holding.{head_tokens, tables_of};
 ghost use Rattle.trace_page.specs.PageSchemas.{schema_json};
+ghost use Rattle.trace_page.specs.PageValues.{index_json, time_json};
+ghost use Rattle.trace_page.specs.Pages.{start_of};
 ghost use Rattle.trace_page.specs.parts.Assembling.{columns_end, PutsLists, last_tokens};
 ghost use Rattle.trace_page.specs.parts.Writing.{Grows, PutsMember};
 
@@ -43,11 +45,29 @@ pub(crate) fn put_columns(
     ensures before { out.new.before ≡ out.old.before }
 {
     tri!(out.end_array());
-    tri!(out.key("time"));
-    tri!(put_times(alloc, out, start_of(times), times));
-    tri!(out.key("schema"));
-    tri!(put_indexes(out, places));
+    tri!(put_time_member(alloc, out, times));
+    tri!(put_schema_member(out, places));
     out.end_object()
+}
+
+// Writes the member that has the times of events, less that of the first.
+fn put_time_member(alloc: Global, out: &mut Writer, times: &[u64]) -> Result<(), AllocError>
+    ensures tokens { PutsMember (codes "time")
+        (list_json (list_map (time_json (start_of times.now)) times.now)) out.old out.new result }
+    ensures before { out.new.before ≡ out.old.before }
+{
+    out.key("time")?;
+    put_times(alloc, out, start_of(times), times)
+}
+
+// Writes the member that has the places of their schemas.
+fn put_schema_member(out: &mut Writer, places: &[usize]) -> Result<(), AllocError>
+    ensures tokens { PutsMember (codes "schema") (list_json (list_map index_json places.now))
+        out.old out.new result }
+    ensures before { out.new.before ≡ out.old.before }
+{
+    out.key("schema")?;
+    put_indexes(out, places)
 }
 
 /// Writes the lists that values name.

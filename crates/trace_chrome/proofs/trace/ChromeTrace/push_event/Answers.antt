@@ -10,7 +10,7 @@ returns c =
     let e = owned_event c.args.event.now in
     let old = c.args.self.now in
     let name_is : c.as_str.result.now ≡ track_name e = search rules in
-    let from_is : c.first_time-from.result ≡ first_by old.start e.time = search rules in
+    let from_is : c.unwrap_or-from.result ≡ first_by old.start e.time = search rules in
     let placed = c.in_ok-spot.ensures in
     let spot_is : c.in_ok-spot.spot
     ≡ record { track = track_number e old.tracks.items; from = first_by old.start e.time; at = e.time } =
