@@ -11,7 +11,6 @@ use crate::growing::{GrowingJson, Mark};
 use crate::parts::Parts;
 use crate::value::{JsonValue, put_value};
 use std::alloc::Global;
-use trace_values::tri;
 use trace_wire::schema::FieldDef;
 
 /// Writes the members of an event's fields, one after another: each value under its name, and where the schema has no
@@ -29,8 +28,8 @@ pub(crate) fn put_fields<V: JsonValue, L: GrowingJson>(
     let mut names = event.schema.fields();
     'fields: for value in event.values {
         let (name, others) = first_name(names);
-        tri!(out.put_mark(Mark::Key(name)));
-        tri!(put_value(alloc, out, event.string_pool, event.stack_pool, value));
+        out.put_mark(Mark::Key(name))?;
+        put_value(alloc, out, event.string_pool, event.stack_pool, value)?;
         names = others;
     }
     Ok(())

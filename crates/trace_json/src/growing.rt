@@ -19,7 +19,6 @@ use std::alloc::{AllocError, Global};
 use std::io::ErrorKind;
 use std::mem;
 use trace_values::leb128::{SendFault, TraceWrite, send_all};
-use trace_values::tri;
 use trace_wire::pools::{StackPool, StringPool};
 
 /// So many bytes of lines are sent at once. A line is sent as it grows where its values alone may be so many.
@@ -248,7 +247,7 @@ impl<'w, W: TraceWrite> SentJson<'w, W> {
     {
         let writer = mem::replace(&mut self.writer, Writer::new(Vec::new(alloc)));
         let mut line = writer.into_inner();
-        tri!(send_both(self.out, &self.held, left_of(&line, self.goes_on)));
+        send_both(self.out, &self.held, left_of(&line, self.goes_on))?;
         self.held.clear();
         line.clear();
         self.writer = Writer::new(line);
@@ -265,7 +264,7 @@ impl<'w, W: TraceWrite> SentJson<'w, W> {
 fn send_both<W: TraceWrite>(out: &mut W, first: &[u8], second: &[u8]) -> Result<(), LineError>
     ensures { SendsBytes (W.told out.old) (W.told out.new) (first.now ++ second.now) result }
 {
-    tri!(send_to(out, first));
+    send_to(out, first)?;
     send_to(out, second)
 }
 

@@ -92,8 +92,8 @@ fn put_list<V: JsonValue, L: GrowingJson>(
     ensures { PutsOneBy L.grows L.fails (IsValueJson (as_pools strings.now stacks.now)
         (list (values_to_items (list_map V.value items.now)))) out.old out.new result }
 {
-    tri!(out.put_mark(Mark::BeginArray));
-    tri!(put_items(alloc, out, strings, stacks, items));
+    out.put_mark(Mark::BeginArray)?;
+    put_items(alloc, out, strings, stacks, items)?;
     out.put_mark(Mark::EndArray)
 }
 
@@ -110,8 +110,8 @@ fn put_map<V: JsonValue, L: GrowingJson>(
         (map (values_to_pairs (list_map (λ p. (V.value p.0, V.value p.1)) pairs.now)))) out.old
         out.new result }
 {
-    tri!(out.put_mark(Mark::BeginArray));
-    tri!(put_pairs(alloc, out, strings, stacks, pairs));
+    out.put_mark(Mark::BeginArray)?;
+    put_pairs(alloc, out, strings, stacks, pairs)?;
     out.put_mark(Mark::EndArray)
 }
 
@@ -128,7 +128,7 @@ fn put_items<V: JsonValue, L: GrowingJson>(
         (values_to_items (list_map V.value items.now))) out.old out.new result }
 {
     'items: for item in items {
-        tri!(put_value(alloc, out, strings, stacks, item));
+        put_value(alloc, out, strings, stacks, item)?;
     }
     Ok(())
 }

@@ -1,4 +1,5 @@
 use Rattle.std.proofs.Common.{[], ap, refl, ◌∙◌, drop}
+use Rattle.std.proofs.lemmas.Result.{err_from_is_err_and}
 use Rattle.dial9_trace_format.specs.parts.Resolving.{as_pools}
 use Rattle.dial9_trace_format.specs.ShownEvents.{names_of}
 use Rattle.trace_json.specs.EventJson.{AreFieldsJson}
@@ -29,17 +30,21 @@ fields-preserved g c =
             inside = c.fields-test.true;
             is = c.value-item.is;
           }) (record { rest = c.fields.invariant.names; named = c.first_name.ensures.name })
-          c.fields.invariant.grown c.in-Ok-tri.ensures c.in-Ok-tri-2.ensures;
+          c.fields.invariant.grown c.in_ok-put_mark.ensures c.in_ok-put_value.ensures;
     }
 
-pub returns-in-fields : goal.returns-in-fields
-returns-in-fields g c =
-    g.met.L.GrowingJson.carries _ _ _ _ _ c.fields.invariant.grown.grown c.in-Err-tri.ensures
+pub returns-in_err-put_mark : goal.returns-in_err-put_mark
+returns-in_err-put_mark g c =
+    let p = err_from_is_err_and c.from_residual.result c.from_residual.ensures.1 in
+    rw (p.1, p.2) (g.met.L.GrowingJson.carries _ _ _ _ _ c.fields.invariant.grown.grown c.in_err-put_mark.ensures)
 
-pub returns-in-fields-2 : goal.returns-in-fields-2
-returns-in-fields-2 g c =
+pub returns-in_err-put_value : goal.returns-in_err-put_value
+returns-in_err-put_value g c =
     let carries = g.met.L.GrowingJson.carries in
-    carries _ _ _ _ _ c.fields.invariant.grown.grown (carries _ _ _ _ _ c.in-Ok-tri.ensures c.in-Err-tri-2.ensures)
+    let given = c.from_residual-in_err-put_value in
+    let p = err_from_is_err_and given.result given.ensures.1 in
+    rw (p.1, p.2) (carries _ _ _ _ _ c.fields.invariant.grown.grown (carries _ _ _ _ _ c.in_ok-put_mark.ensures
+    c.in_err-put_value.ensures))
 
 pub returns : goal.returns
 returns g c =

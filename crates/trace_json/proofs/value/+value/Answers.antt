@@ -1,4 +1,5 @@
 use Rattle.std.proofs.Common.{refl, [], map as list_map, arith}
+use Rattle.std.proofs.lemmas.Result.{err_from_is_err_and}
 use Rattle.trace_values.proofs.ValueSizes.{falls_3, steps_3}
 use Rattle.trace_events.proofs.Depths.{item_in, key_in, value_in, most_below, most_pair_below}
 use Rattle.json.specs.Tree.{json_tokens}
@@ -8,26 +9,42 @@ use Rattle.trace_json.specs.EventJson.{AreItemsJson, ArePairsJson, IsValueJson}
 use Rattle.trace_json.proofs.Grown.{all_grown, item_grown, list_closed, none_grown, pair_grown, pairs_grown}
 use Rattle.trace_json.proofs.value.+value.Goals as goal
 
-pub put_list-returns-2 : goal.put_list-returns-2
-put_list-returns-2 g t c = g.met.L.GrowingJson.carries _ _ _ _ _ c.in-Ok-tri.ensures c.in-Err-tri-2.ensures
+pub put_list-returns-in_err-put_mark : goal.put_list-returns-in_err-put_mark
+put_list-returns-in_err-put_mark g t c =
+    let p = err_from_is_err_and c.from_residual.result c.from_residual.ensures.1 in
+    rw (p.1, p.2) c.in_err-put_mark.ensures
 
-pub put_list-returns-3 : goal.put_list-returns-3
-put_list-returns-3 g t c =
+pub put_list-returns-in_err-put_items : goal.put_list-returns-in_err-put_items
+put_list-returns-in_err-put_items g t c =
+    let given = c.from_residual-in_err-put_items in
+    let p = err_from_is_err_and given.result given.ensures.1 in
+    rw (p.1, p.2) (g.met.L.GrowingJson.carries _ _ _ _ _ c.in_ok-put_mark.ensures c.in_err-put_items.ensures)
+
+pub put_list-returns : goal.put_list-returns
+put_list-returns g t c =
     list_closed g.met.L.GrowingJson.joins g.met.L.GrowingJson.carries
     (AreItemsJson (as_pools c.args.strings.now c.args.stacks.now)
     (values_to_items (list_map g.V.TraceValue.value c.args.items.now)))
-    c.put_mark-2.new.self c.put_mark-2.result c.in-Ok-tri.ensures c.in-Ok-tri-2.ensures c.put_mark-2.ensures
+    c.put_mark-2.new.self c.put_mark-2.result c.in_ok-put_mark.ensures c.in_ok-put_items.ensures c.put_mark-2.ensures
 
-pub put_map-returns-2 : goal.put_map-returns-2
-put_map-returns-2 g t c = g.met.L.GrowingJson.carries _ _ _ _ _ c.in-Ok-tri.ensures c.in-Err-tri-2.ensures
+pub put_map-returns-in_err-put_mark : goal.put_map-returns-in_err-put_mark
+put_map-returns-in_err-put_mark g t c =
+    let p = err_from_is_err_and c.from_residual.result c.from_residual.ensures.1 in
+    rw (p.1, p.2) c.in_err-put_mark.ensures
 
-pub put_map-returns-3 : goal.put_map-returns-3
-put_map-returns-3 g t c =
+pub put_map-returns-in_err-put_pairs : goal.put_map-returns-in_err-put_pairs
+put_map-returns-in_err-put_pairs g t c =
+    let given = c.from_residual-in_err-put_pairs in
+    let p = err_from_is_err_and given.result given.ensures.1 in
+    rw (p.1, p.2) (g.met.L.GrowingJson.carries _ _ _ _ _ c.in_ok-put_mark.ensures c.in_err-put_pairs.ensures)
+
+pub put_map-returns : goal.put_map-returns
+put_map-returns g t c =
     let value = g.V.TraceValue.value in
     list_closed g.met.L.GrowingJson.joins g.met.L.GrowingJson.carries
     (ArePairsJson (as_pools c.args.strings.now c.args.stacks.now)
     (values_to_pairs (list_map (λ p. (value p.0, value p.1)) c.args.pairs.now)))
-    c.put_mark-2.new.self c.put_mark-2.result c.in-Ok-tri.ensures c.in-Ok-tri-2.ensures c.put_mark-2.ensures
+    c.put_mark-2.new.self c.put_mark-2.result c.in_ok-put_mark.ensures c.in_ok-put_pairs.ensures c.put_mark-2.ensures
 
 pub put_items-items-init : goal.put_items-items-init
 put_items-items-init g t c =
@@ -37,11 +54,12 @@ put_items-items-init g t c =
 pub put_items-items-preserved : goal.put_items-items-preserved
 put_items-items-preserved g t c =
     item_grown g.met.L.GrowingJson.joins (as_pools c.args.strings.now c.args.stacks.now) g.V.TraceValue.value
-    c.args.items.now c.items.item-index c.items-test.true c.item-item.is c.items.invariant c.in-Ok-tri.ensures
+    c.args.items.now c.items.item-index c.items-test.true c.item-item.is c.items.invariant c.in_ok-put_value.ensures
 
-pub put_items-returns-in-items : goal.put_items-returns-in-items
-put_items-returns-in-items g t c =
-    g.met.L.GrowingJson.carries _ _ _ _ _ c.items.invariant.grown c.in-Err-tri.ensures
+pub put_items-returns-in_err-put_value : goal.put_items-returns-in_err-put_value
+put_items-returns-in_err-put_value g t c =
+    let p = err_from_is_err_and c.from_residual.result c.from_residual.ensures.1 in
+    rw (p.1, p.2) (g.met.L.GrowingJson.carries _ _ _ _ _ c.items.invariant.grown c.in_err-put_value.ensures)
 
 pub put_items-returns : goal.put_items-returns
 put_items-returns g t c =

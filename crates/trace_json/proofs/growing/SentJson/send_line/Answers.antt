@@ -1,19 +1,21 @@
 use Rattle.std.proofs.Common.{List, [], ◌∷◌, ◌++◌, refl, ◌∙◌, ap}
+use Rattle.std.proofs.lemmas.Result.{err_from_is_err_and}
 use Rattle.json.specs.Print.{print}
 use Rattle.json.specs.Token.{Token, end_array}
 use Rattle.json.specs.Written.{Written}
 use Rattle.trace_json.proofs.SentText.{line_gone, line_refused_on, line_stuck}
 use Rattle.trace_json.proofs.growing.SentJson.send_line.Goals as goal
 
-pub returns : goal.returns
-returns g c =
-    line_stuck g.W.TraceWrite.told c.args.self.now _ _
+pub returns-in_err-send_both : goal.returns-in_err-send_both
+returns-in_err-send_both g c =
+    let p = err_from_is_err_and c.from_residual.result c.from_residual.ensures.1 in
+    rw (p.1, p.2) (line_stuck g.W.TraceWrite.told c.args.self.now _ _
     (record {
       held_is = c.deref.ensures.value;
       text_is = c.deref-2.ensures.value ∙ c.into_inner-line.ensures.items
           ∙ ap (λ (w : Written). w.before ++ print w.tokens) c.replace-writer.ensures.value;
       left_is = c.left_of.ensures;
-    }) refl c.in-Err-tri.ensures
+    }) refl c.in_err-send_both.ensures)
 
 pub returns-in-Ok : goal.returns-in-Ok
 returns-in-Ok g c =
@@ -23,7 +25,7 @@ returns-in-Ok g c =
       text_is = c.deref-2.ensures.value ∙ c.into_inner-line.ensures.items
           ∙ ap (λ (w : Written). w.before ++ print w.tokens) c.replace-writer.ensures.value;
       left_is = c.left_of.ensures;
-    }) refl c.in-Ok-tri.ensures c.requires
+    }) refl c.in_ok-send_both.ensures c.requires
     (record {
       tokens = c.in-Ok.ensures.ok ∙ ap (λ (ts : List Token). ts ++ end_array ∷ []) c.new-3.ensures.tokens;
       before = c.end_array.ensures.room.0 ∙ c.new-3.ensures.before ∙ c.clear-2.ensures.items;
@@ -39,4 +41,4 @@ returns-in-Err g c =
       text_is = c.deref-2.ensures.value ∙ c.into_inner-line.ensures.items
           ∙ ap (λ (w : Written). w.before ++ print w.tokens) c.replace-writer.ensures.value;
       left_is = c.left_of.ensures;
-    }) refl c.in-Ok-tri.ensures
+    }) refl c.in_ok-send_both.ensures
