@@ -1,8 +1,8 @@
 //! A trace that comes in two pieces, and frames that are pulled.
 
-ghost use Rattle.std.specs.Prelude.{[], Ok, IfOk, IfNone};
-ghost use Rattle.dial9_trace_format.specs.Words.{Feeds};
-ghost use Rattle.user_words.specs.Halves.{GivesAsWhole};
+ghost use Rattle.std.specs.Prelude.{[], Ok, IfOk, IfErr, IfNone, option_map};
+ghost use Rattle.dial9_trace_format.specs.Words.{Feeds, item_of};
+ghost use Rattle.user_words.specs.Halves.{GivesAsWhole, RefusesHalves, PushesAndPulls, RefusesNext};
 
 use dial9_trace_format::decoder::{DecodeError, DecodedFrame, FeedDecoder};
 use dial9_trace_format::laws;
@@ -17,7 +17,8 @@ pub fn in_halves(
     first: &[u8],
     second: &[u8],
 ) -> Result<(Vec<DecodedFrame>, Vec<DecodedFrame>), DecodeError>
-    ensures { IfOk result (GivesAsWhole first.now second.now) }
+    ensures frames { IfOk result (GivesAsWhole first.now second.now) }
+    ensures refused { IfErr result (RefusesHalves first.now second.now) }
 {
     laws::any_pieces();
     let mut decoder = FeedDecoder::new(alloc);
@@ -32,8 +33,12 @@ pub fn next_with(
     decoder: &mut FeedDecoder,
     piece: &[u8],
 ) -> Result<Option<DecodedFrame>, DecodeError>
-    ensures { IfOk result (λ frame. IfNone frame
+    ensures next { IfOk result (λ frame. PushesAndPulls decoder.old.state piece.now
+        decoder.new.state (Ok (option_map item_of frame))) }
+    ensures fed { IfOk result (λ frame. IfNone frame
         (Feeds decoder.old.state piece.now decoder.new.state (Ok []))) }
+    ensures refused { IfErr result
+        (RefusesNext decoder.old.state piece.now decoder.new.state) }
 {
     laws::pulling_feeds();
     decoder.push(piece)?;
