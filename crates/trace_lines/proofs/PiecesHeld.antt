@@ -1,6 +1,6 @@
 -- The lines of a piece, which are held, and sent as they grow.
-use Rattle.std.proofs.Common.{◌≡◌, ◌∙◌, ℕ, ◌-◌, ◌<◌, List, [], ◌∷◌, ◌++◌, length, take, drop, Option, Some, None}
-use Rattle.std.proofs.Common.{Result, Ok, Err, IsErr, refl, sym, ap, subst, append_assoc, append-nil, arith}
+use Rattle.std.proofs.Common.{◌≡◌, ◌∙◌, ℕ, ◌+◌, ◌-◌, ◌<◌, ◌≤◌, List, [], ◌∷◌, ◌++◌, length, take, drop, Option, Some}
+use Rattle.std.proofs.Common.{None, Result, Ok, Err, IsErr, OnOk, refl, sym, ap, subst, append_assoc, append-nil, arith}
 use Rattle.std.proofs.Common.{string_bytes, String, Global}
 use Rattle.std.proofs.lemmas.List.{take-append-drop}
 use Rattle.std.specs.FinMap as map
@@ -18,7 +18,7 @@ use Rattle.trace_wire.specs.Schemas.{Entry, Field, WireType, types_of}
 use Rattle.trace_wire.specs.WireTypes.{entry_of}
 use Rattle.trace_wire.specs.Runs.{Begins, EventItem}
 use Rattle.dial9_trace_format.specs.Decoding.{DecoderState, Goes}
-use Rattle.dial9_trace_format.specs.Feeding.{Fed, FeedState}
+use Rattle.dial9_trace_format.specs.Feeding.{Fed, FeedState, greatest_fed}
 use Rattle.dial9_trace_format.specs.Pulling.{reader_of, standing_at}
 use Rattle.dial9_trace_format.specs.WholeEvents.{IsEventAt, IsWholeEvent, values_in}
 use Rattle.dial9_trace_format.specs.declared.decoder.feeding.whole.WholeEvent.{WholeEvent}
@@ -33,7 +33,7 @@ use Rattle.trace_lines.specs.declared.sent_lines.LineFault.{LineFault}
 use Rattle.trace_lines.specs.declared.sent_lines.LineFault.TheVariants.{OutOfMemory, Unsent}
 use Rattle.trace_lines.specs.parts.LineLaws.{goes_after, line_joins}
 use Rattle.trace_lines.specs.parts.PieceDumps.{AreNextLines, ArePieceLines, IsFed, IsLeft, LinesBegin, LinesCome}
-use Rattle.trace_lines.specs.parts.PieceDumps.{SendsPiece}
+use Rattle.trace_lines.specs.parts.PieceDumps.{CountsPiece, SendsPiece}
 use Rattle.trace_lines.specs.SentLines.{Leaves}
 use Rattle.trace_lines.specs.parts.SentLines.{GoOut, LineGrows, unsent}
 use Rattle.trace_lines.specs.parts.SentPieces.{GathersSent, HoldsNext, PutsEvent, PutsNext}
@@ -253,6 +253,7 @@ pub record HeldSoFar {W : Type 0} (told : W → Account) (s m : Lines W) (old no
   pub text : List ℕ
   pub gathered : Gathered old now text
   pub out : GoOut told s m (string_bytes s.held ++ text) (string_bytes m.held) (Ok tt)
+  pub counted : now.fed_len ≡ old.fed_len
 
 -- before the first frame no lines came
 pub none_held : {W : Type 0} (told : W → Account) (s : Lines W) (old : FeedState) → IsFed old
@@ -264,6 +265,7 @@ none_held told s old fed = record {
     same_writer = refl;
     bytes = record { sent = []; took = TookOnly-none (told s.out.now); is = append-nil (string_bytes s.held) };
   };
+  counted = refl;
 }
 
 -- lines go out after others
@@ -282,13 +284,14 @@ out_after told s m t a b r first second = record {
 pub one_more_held :
     {W : Type 0} (told : W → Account) {s m : Lines W} (t : Lines W) {old now : FeedState} (new : FeedState)
     {next : Next} → next ≡ Line → HeldSoFar told s m old now → HoldsNext told m t now new (Ok next)
-    → HeldSoFar told s t old new × (length new.kept < length now.kept)
-one_more_held told {s} {m} t new is h (text, are, out) =
+    → new.fed_len ≡ now.fed_len → HeldSoFar told s t old new × (length new.kept < length now.kept)
+one_more_held told {s} {m} t new is h (text, are, out) same =
     let more = one_more new text {after = h.text ++ text} is h.gathered are refl in (
       record {
         text = h.text ++ text;
         gathered = more.0;
         out = out_after told s m t h.text text (Ok tt) h.out out;
+        counted = same ∙ h.counted;
       },
       more.1,
     )
@@ -361,6 +364,15 @@ piece_held told s t old mid new piece (Ok end) is (text, are, out) =
     (text, gathered_after {E = LineFault} old mid new piece text (Ok end) is are, out)
 piece_held told s t old mid new piece (Err e) is (text, begins, out) =
     (text, gathered_after {E = LineFault} old mid new piece text (Err e) is begins, out)
+
+-- the bytes of a piece that was pushed are counted, where what comes of it counts no more
+pub counted_on :
+    {E : Type 0} (old mid new : FeedState) (piece : List ℕ) (r : Result (Option ℕ) E)
+    → old.fed_len + length piece ≤ greatest_fed → mid ≡ pushed old piece → OnOk r (new.fed_len ≡ mid.fed_len)
+    → OnOk r (CountsPiece old piece new)
+counted_on old mid new piece (Ok end) few is same =
+    record { few = few; counted = same ∙ ap (λ (s : FeedState). s.fed_len) is }
+counted_on old mid new piece (Err e) few is same = tt
 
 -- ---- and sent
 

@@ -1,13 +1,14 @@
 -- What was sent of an input so far, piece by piece.
-use Rattle.std.proofs.Common.{◌≡◌, ℕ, ◌<◌, List, [], ◌++◌, length, take, Option, Some, None, Result, Ok, IsErr, ◌∷◌}
-use Rattle.std.proofs.Common.{Err, refl, sym, ap, subst, ◌∙◌, append-nil, append_assoc, arith, false}
+use Rattle.std.proofs.Common.{◌≡◌, ℕ, ◌+◌, ◌<◌, ◌≤◌, List, [], ◌∷◌, ◌++◌, length, take, Option, Some, None}
+use Rattle.std.proofs.Common.{Result, Ok, Err, IsErr, refl, sym, ap, subst, ◌∙◌, append-nil, append_assoc, arith, false}
+use Rattle.std.proofs.lemmas.List.{length-append}
 use Rattle.std.specs.Io.KnownBytes.{Consumes, Keeps, IsAtEnd}
 use Rattle.std.specs.declared.io.ErrorKind.{ErrorKind}
 use Rattle.trace_values.specs.Number.{AreBytes}
 use Rattle.trace_values.specs.Sending.{Account, Took, TookOnly}
 use Rattle.trace_values.proofs.FixedWidths.{AreBytes-right}
 use Rattle.trace_values.proofs.SendingLemmas.{Took-join, TookOnly-none, TookOnly-join}
-use Rattle.dial9_trace_format.specs.Feeding.{FeedState, new_feed}
+use Rattle.dial9_trace_format.specs.Feeding.{FeedState, greatest_fed, new_feed}
 use Rattle.trace_lines.specs.Dumps.{failed_status, IsDump, BeginsDump, IsFrontOfDump, PrintsUpToFault}
 use Rattle.trace_lines.specs.Program.{DumpsAll}
 use Rattle.trace_lines.specs.declared.dump.DumpForm.TheVariants.{Frames}
@@ -15,9 +16,9 @@ use Rattle.trace_lines.specs.declared.dump.Reader.TheVariants.{Owned}
 use Rattle.trace_lines.proofs.DumpStatuses.{dump_status}
 use Rattle.trace_lines.proofs.DumpsSentInParts.{front_unsettled}
 use Rattle.trace_lines.specs.parts.Sent.{Sends}
-use Rattle.trace_lines.specs.PieceDumps.{DumpsFrontOfBytes, DumpsFrontOfRead, DumpsRead}
+use Rattle.trace_lines.specs.PieceDumps.{DumpsFrontOfBytes, DumpsFrontOfRead, DumpsRead, ReadsWithin}
 use Rattle.trace_lines.specs.parts.PieceDumps.{IsDumpRead, SendsRead, IsLeft, LinesCome, LinesEnd, LinesBegin}
-use Rattle.trace_lines.specs.parts.PieceDumps.{IsWaiting, ArePieceLines, SendsPiece}
+use Rattle.trace_lines.specs.parts.PieceDumps.{IsWaiting, ArePieceLines, CountsPiece, SendsPiece}
 use Rattle.trace_lines.proofs.PieceLines.{nothing_comes, come_further, end_further, left_exists, both_fit}
 
 -- ---- what a reader tells
@@ -65,6 +66,8 @@ pub record SentSoFar (a b : Account) (before after : Option (List ℕ)) (s : Fee
   pub consumed : Consumes before after read
   pub come : LinesCome new_feed read s sent
   pub waiting : IsWaiting s
+  pub counted : length read ≡ s.fed_len
+  pub few : length read ≤ greatest_fed
 
 -- before the first piece nothing was sent
 pub nothing_sent : (a : Account) (before : Option (List ℕ)) (s : FeedState) → s ≡ new_feed → IsWaiting s
@@ -76,6 +79,8 @@ nothing_sent a before s is w = record {
   consumed = consumed_none before;
   come = subst (λ (x : FeedState). LinesCome new_feed [] x []) (sym is) (nothing_comes new_feed);
   waiting = w;
+  counted = sym (ap (λ (x : FeedState). x.fed_len) is);
+  few = omega arith;
 }
 
 -- a read that gave nothing
@@ -90,31 +95,41 @@ nothing_read {before = before} {after} last h k = record {
       (consumed_more before after last h.read [] h.consumed (kept_consumes after last k));
   come = h.come;
   waiting = h.waiting;
+  counted = h.counted;
+  few = h.few;
 }
+
+-- the count of all bytes that were read, and of a piece
+count_with :
+    {a b : Account} {before after : Option (List ℕ)} {s : FeedState} (piece : List ℕ) (h : SentSoFar a b before after s)
+    → length (h.read ++ piece) ≡ s.fed_len + length piece
+count_with piece h = length-append h.read piece ∙ ap (λ (n : ℕ). n + length piece) h.counted
 
 -- a piece, and its lines
 pub piece_sent :
     {a b c : Account} {before after : Option (List ℕ)} {s t : FeedState} (last : Option (List ℕ))
-    (piece lines : List ℕ) → SentSoFar a b before after s → Consumes after last piece →
+    (piece lines : List ℕ) → SentSoFar a b before after s → Consumes after last piece → CountsPiece s piece t →
     LinesCome s piece t lines × IsWaiting t → TookOnly b c lines [] → SentSoFar a c before last t
-piece_sent {a} {b} {c} {before} {after} {s} {t} last piece lines h used (come, waiting) took = record {
+piece_sent {a} {b} {c} {before} {after} {s} {t} last piece lines h used counts (come, waiting) took = record {
   read = h.read ++ piece;
   sent = h.sent ++ lines;
   took = TookOnly-join a b c h.sent lines [] [] h.took took;
   consumed = consumed_more before after last h.read piece h.consumed used;
   come = come_further new_feed s t h.read piece h.sent lines h.come come;
   waiting = waiting;
+  counted = count_with piece h ∙ sym counts.counted;
+  few = omega (arith, count_with piece h, counts.few);
 }
 
 -- ---- the end
 
 -- the dump of all, where the lines of a piece are the last
 pub ends_within :
-    {a b c : Account} {before after : Option (List ℕ)} {s : FeedState} (last : Option (List ℕ))
+    {a b c : Account} {before after : Option (List ℕ)} {s t : FeedState} (last : Option (List ℕ))
     (piece lines : List ℕ) (status : ℕ) → SentSoFar a b before after s → Consumes after last piece →
-    LinesEnd s piece status lines → TookOnly b c lines [] →
+    CountsPiece s piece t → LinesEnd s piece status lines → TookOnly b c lines [] →
     (text : List ℕ) × IsDumpRead before last status text × TookOnly a c text []
-ends_within {a} {b} {c} {before} {after} {s} last piece lines status h used ends took =
+ends_within {a} {b} {c} {before} {after} {s} last piece lines status h used counts ends took =
     let read = h.read ++ piece in
     let all : LinesEnd new_feed read status (h.sent ++ lines) =
     end_further new_feed s h.read piece h.sent lines status h.come ends in (
@@ -127,6 +142,7 @@ ends_within {a} {b} {c} {before} {after} {s} last piece lines status h used ends
             let p = consumed_parts before last bytes read e
             (consumed_more before after last h.read piece h.consumed used) in
             subst (λ (x : List ℕ). IsDump false x status (h.sent ++ lines)) (sym p.2) (all p.0);
+        few = omega (arith, count_with piece h, counts.few);
       },
       TookOnly-join a b c h.sent lines [] [] h.took took,
     )
@@ -153,6 +169,7 @@ ends_after {a} {b} {c} {before} {after} {s} last text status h used end is took 
             p.2 ∙ ap (λ (x : List ℕ). (h.read ++ []) ++ x) (at_end last p.0 p.1 end) ∙ append-nil (h.read ++ [])
             ∙ append-nil h.read in
             subst (λ (x : List ℕ). IsDump false x status (h.sent ++ text)) (sym same) of_read;
+        few = h.few;
       },
       TookOnly-join a b c h.sent text [] [] h.took took,
     )
@@ -272,21 +289,21 @@ piece_failed c t last piece e (Err x) i h used p = front_of_piece last piece h u
 -- the lines of a piece are the last
 pub piece_ends :
     {a b : Account} {before after : Option (List ℕ)} {s : FeedState} (c : Account) (t : FeedState)
-    (last : Option (List ℕ)) (piece : List ℕ) (status : ℕ) (end : Option ℕ) → end ≡ Some status →
-    SentSoFar a b before after s → Consumes after last piece →
+    (last : Option (List ℕ)) (piece : List ℕ) {status : ℕ} {end : Option ℕ} → end ≡ Some status →
+    SentSoFar a b before after s → Consumes after last piece → CountsPiece s piece t →
     (lines : List ℕ) × ArePieceLines s piece t lines end × TookOnly b c lines [] →
     (text : List ℕ) × IsDumpRead before last status text × TookOnly a c text []
-piece_ends {s = s} c t last piece status end is h used (lines, all, took) =
-    ends_within last piece lines status h used (subst (ArePieceLines s piece t lines) is all) took
+piece_ends {s = s} c t last piece {status} is h used counts (lines, all, took) =
+    ends_within last piece lines status h used counts (subst (ArePieceLines s piece t lines) is all) took
 
 -- or more may come
 pub piece_goes_on :
     {a b : Account} {before after : Option (List ℕ)} {s : FeedState} (c : Account) (t : FeedState)
     (last : Option (List ℕ)) (piece : List ℕ) (end : Option ℕ) → end ≡ None → SentSoFar a b before after s →
-    Consumes after last piece → (lines : List ℕ) × ArePieceLines s piece t lines end × TookOnly b c lines [] →
-    SentSoFar a c before last t
-piece_goes_on {s = s} c t last piece end is h used (lines, all, took) =
-    piece_sent last piece lines h used (subst (ArePieceLines s piece t lines) is all) took
+    Consumes after last piece → CountsPiece s piece t →
+    (lines : List ℕ) × ArePieceLines s piece t lines end × TookOnly b c lines [] → SentSoFar a c before last t
+piece_goes_on {s = s} c t last piece end is h used counts (lines, all, took) =
+    piece_sent last piece lines h used counts (subst (ArePieceLines s piece t lines) is all) took
 
 -- ---- and then it is settled
 
@@ -316,6 +333,12 @@ read_dumped {a} {b} {c} status (text, is, took) settled = record {
     subst (λ (t : List ℕ). Took a c t []) (append-nil text) (Took-join a b c text [] [] [] took.took settled),
   );
 }
+
+-- of a dump that was sent, no more was read than a decoder can be fed
+pub reads_within :
+    {a b : Account} {before after : Option (List ℕ)} (status : ℕ) →
+    (text : List ℕ) × IsDumpRead before after status text × TookOnly a b text [] → ReadsWithin greatest_fed before after
+reads_within status (text, is, took) = record { read = is.read; consumed = is.consumed; few = is.few }
 
 -- a dump that was sent ends with a status of dumps
 pub status_known :

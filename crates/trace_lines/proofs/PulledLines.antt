@@ -1,6 +1,6 @@
 -- The lines of what a decoder that is fed gives, frame by frame.
 use Rattle.std.proofs.Common.{◌≡◌, ◌⊎◌, ℕ, ◌+◌, ◌<◌, List, [], ◌∷◌, ◌++◌, length, Option, Some, None, Result, Ok, Err}
-use Rattle.std.proofs.Common.{IfOk, refl, sym, ap, subst, ◌∙◌, append-nil, arith, inl, inr}
+use Rattle.std.proofs.Common.{IfOk, IfSome, OnOk, refl, sym, ap, subst, ◌∙◌, append-nil, arith, inl, inr}
 use Rattle.std.proofs.lemmas.List.{length-append}
 use Rattle.trace_values.specs.Number.{AreBytes}
 use Rattle.trace_values.specs.Values.{owned_reader}
@@ -307,3 +307,35 @@ pub stuck_ok :
     → IfOk r (StuckLines new lines text) → IfOk r (AreNextLines old new text)
 stuck_ok old new lines text (Ok next) h stuck = with_stuck old new lines text next h stuck
 stuck_ok old new lines text (Err e) h stuck = tt
+
+-- ---- the count of bytes
+
+count_of_frame : (s new : FeedState) (frame : Result (Option Item) DecodeError) → PullsFrame s new frame
+    → new.fed_len ≡ s.fed_len
+count_of_frame s new (Ok shown) p = ap (λ (x : FeedState). x.fed_len) p.2
+count_of_frame s new (Err e) p = ap (λ (x : FeedState). x.fed_len) p.4
+
+count_if_works :
+    (s new : FeedState) (frame : Result (Option Item) DecodeError)
+    → PullsFew s new frame ⊎ (PullsNoHeader s new frame ⊎ PullsNext s new frame) → new.fed_len ≡ s.fed_len
+count_if_works s new frame (inl few) = ap (λ (x : FeedState). x.fed_len) few.same
+count_if_works s new frame (inr (inl bare)) = ap (λ (x : FeedState). x.fed_len) bare.failed
+count_if_works s new frame (inr (inr n)) = count_of_frame (record s { version = Some n.version }) new frame n.frame
+
+count_by :
+    (fault : Option DecodeError) {s new : FeedState} {frame : Result (Option Item) DecodeError} → s.fault ≡ fault
+    → Pulls s new frame → new.fed_len ≡ s.fed_len
+count_by None {s} {new} {frame} works p = count_if_works s new frame (p.next works)
+count_by (Some e) {s} {new} {frame} failed p =
+    ap (λ (x : FeedState). x.fed_len)
+    (subst (λ (o : Option DecodeError). IfSome o (λ f. (frame ≡ Err f) × (new ≡ s))) failed p.again).1
+
+-- a frame that is pulled counts no bytes
+pub pulls_count : {s new : FeedState} {frame : Result (Option Item) DecodeError} → Pulls s new frame
+    → new.fed_len ≡ s.fed_len
+pulls_count {s} p = count_by s.fault refl p
+
+-- what holds whatever a call answered
+pub on_ok : {A E P : Type 0} (r : Result A E) → P → OnOk r P
+on_ok (Ok it) p = p
+on_ok (Err e) p = tt

@@ -1,5 +1,5 @@
 -- The dump of an input that comes in pieces.
-use Rattle.std.specs.Prelude.{◌≡◌, ℕ, false, List, Option, Some}
+use Rattle.std.specs.Prelude.{◌≡◌, ℕ, ◌≤◌, false, List, length, Option, Some}
 use Rattle.std.specs.Io.KnownBytes.{Consumes}
 use Rattle.trace_values.specs.Number.{AreBytes}
 use Rattle.trace_values.specs.Sending.{Account}
@@ -24,3 +24,11 @@ pub record DumpsFrontOfRead (before after : Option (List ℕ)) (old new : Accoun
 abbrev pub DumpsFrontOfBytes : Option (List ℕ) → Account → Account → Type 0
 DumpsFrontOfBytes remaining old new =
     (bytes : List ℕ) → remaining ≡ Some bytes → AreBytes bytes → PrintsUpToFault (BeginsDump false bytes) old new
+
+-- ---- what is read of it
+
+-- At most so many bytes were read.
+pub record ReadsWithin (most : ℕ) (before after : Option (List ℕ)) : Type 0 where
+  pub read : List ℕ
+  pub consumed : Consumes before after read
+  pub few : length read ≤ most

@@ -3,15 +3,15 @@
 ghost use Rattle.std.specs.Prelude.{◌≡◌, ◌≢◌, ◌≤◌, [], false, IfOk, IfSome, OnOk, string_bytes};
 ghost use Rattle.trace_values.specs.Sending.{IsSettled};
 ghost use Rattle.trace_lines.specs.Dumps.{failed_status};
-ghost use Rattle.trace_lines.specs.PieceDumps.{DumpsFrontOfBytes, DumpsFrontOfRead, DumpsRead};
+ghost use Rattle.trace_lines.specs.PieceDumps.{DumpsFrontOfBytes, DumpsFrontOfRead, DumpsRead, ReadsWithin};
 ghost use Rattle.trace_lines.specs.parts.PieceDumps.{IsFed, IsWaiting, AreNextLines, IsLeft};
 ghost use Rattle.trace_lines.specs.parts.PieceDumps.{AppendsEnd, AppendsFirst, PulledLines, SendsPiece, SendsRead};
-ghost use Rattle.trace_lines.specs.parts.PieceDumps.{StuckLines};
+ghost use Rattle.trace_lines.specs.parts.PieceDumps.{CountsPiece, StuckLines};
 ghost use Rattle.trace_lines.specs.parts.SentPieces.{GathersSent, HoldsNext, PutsEvent, PutsNext};
 ghost use Rattle.dial9_trace_format.specs.WholeEvents.{IsWholeEvent};
 ghost use Rattle.dial9_trace_format.specs.CompactFrames.{compact_item_of};
 ghost use Rattle.dial9_trace_format.specs.DecodedFrames.{next_as};
-ghost use Rattle.dial9_trace_format.specs.Feeding.{new_feed};
+ghost use Rattle.dial9_trace_format.specs.Feeding.{greatest_fed, new_feed};
 ghost use Rattle.trace_lines.specs.parts.Sent.{Sends};
 ghost use Rattle.trace_lines.specs.Program.{DumpsAll};
 
@@ -52,7 +52,8 @@ enum Next {
 /// then before it reads more. After a conflict, where no header stands, and where no frame comes of what was read,
 /// whatever is read after it, it reads no more. `FAILED` comes only where a growth was refused, where the input could
 /// not be read to its end, and where the writer failed: then a front of the lines was written, with no fault or one,
-/// and nothing was handed on or tried again.
+/// and nothing was handed on or tried again. An input of more than 2^64 - 1 bytes cannot be read to its end, and none
+/// that gives no end in 2^64 - 1 reads.
 pub fn dump_pieces<R: Read, W: TraceWrite>(alloc: Global, input: &mut R, out: &mut W) -> u8
     ensures lines { result ≢ failed_status
         → DumpsAll false (R.remaining input.old) (W.told out.old) (W.told out.new) result }
@@ -66,6 +67,8 @@ pub fn dump_pieces<R: Read, W: TraceWrite>(alloc: Global, input: &mut R, out: &m
     ensures front_read { result ≡ failed_status
         → DumpsFrontOfRead (R.remaining input.old) (R.remaining input.new) (W.told out.old)
         (W.told out.new) }
+    ensures within { result ≢ failed_status
+        → ReadsWithin greatest_fed (R.remaining input.old) (R.remaining input.new) }
 {
     dump_fed(alloc, &mut FeedDecoder::new(alloc), input, out)
 }
@@ -91,6 +94,8 @@ pub fn dump_fed<R: Read, W: TraceWrite>(
     ensures front_read { result ≡ failed_status
         → DumpsFrontOfRead (R.remaining input.old) (R.remaining input.new) (W.told out.old)
         (W.told out.new) }
+    ensures within { result ≢ failed_status
+        → ReadsWithin greatest_fed (R.remaining input.old) (R.remaining input.new) }
 {
     match send_pieces(alloc, decoder, input, out) {
         Ok(status) => match out.settle() {
@@ -173,8 +178,9 @@ fn send_piece<W: TraceWrite>(
     out: &mut W,
 ) -> Result<Option<u8>, DumpError>
     requires { IsWaiting decoder.old.state }
-    ensures { SendsPiece (W.told out.old) (W.told out.new) decoder.old.state piece.now
+    ensures sends { SendsPiece (W.told out.old) (W.told out.new) decoder.old.state piece.now
         decoder.new.state result }
+    ensures counts { OnOk result (CountsPiece decoder.old.state piece.now decoder.new.state) }
 {
     let (line, held) = (String::new(alloc), String::new(alloc));
     let mut lines = Lines { line, held, out };
@@ -196,6 +202,7 @@ fn send_gathered<W: TraceWrite>(
     ensures same_writer { lines.new.out.ghost_name ≡ lines.old.out.ghost_name }
     ensures sends { SendsPiece (W.told lines.old.out.now) (W.told lines.new.out.now)
         decoder.old.state piece.now decoder.new.state result }
+    ensures counts { OnOk result (CountsPiece decoder.old.state piece.now decoder.new.state) }
 {
     match gather_piece(alloc, decoder, piece, lines) {
         Ok(end) => {
@@ -219,8 +226,9 @@ fn gather_piece<W: TraceWrite>(
     lines: &mut Lines<'_, W>,
 ) -> Result<Option<u8>, LineFault>
     requires { IsWaiting decoder.old.state }
-    ensures { GathersSent W.told lines.old lines.new decoder.old.state piece.now decoder.new.state
-        result }
+    ensures gathers { GathersSent W.told lines.old lines.new decoder.old.state piece.now
+        decoder.new.state result }
+    ensures counts { OnOk result (CountsPiece decoder.old.state piece.now decoder.new.state) }
 {
     let Ok(()) = decoder.push(piece) else {
         return Err(LineFault::OutOfMemory);
@@ -236,7 +244,9 @@ fn gather_kept<W: TraceWrite>(
     lines: &mut Lines<'_, W>,
 ) -> Result<Option<u8>, LineFault>
     requires { IsFed decoder.old.state }
-    ensures { GathersSent W.told lines.old lines.new decoder.old.state [] decoder.new.state result }
+    ensures gathers { GathersSent W.told lines.old lines.new decoder.old.state []
+        decoder.new.state result }
+    ensures same { OnOk result (decoder.new.state.fed_len ≡ decoder.old.state.fed_len) }
 {
     'lines: loop {
         match hold_next(alloc, decoder, lines)? {
@@ -255,7 +265,9 @@ fn hold_next<W: TraceWrite>(
     lines: &mut Lines<'_, W>,
 ) -> Result<Next, LineFault>
     requires { IsFed decoder.old.state }
-    ensures { HoldsNext W.told lines.old lines.new decoder.old.state decoder.new.state result }
+    ensures holds { HoldsNext W.told lines.old lines.new decoder.old.state decoder.new.state
+        result }
+    ensures same { OnOk result (decoder.new.state.fed_len ≡ decoder.old.state.fed_len) }
 {
     lines.line.clear();
     let next = put_next(alloc, decoder, lines)?;
@@ -271,7 +283,8 @@ fn put_next<W: TraceWrite>(
 ) -> Result<Next, LineFault>
     requires fed { IsFed decoder.old.state }
     requires empty { string_bytes lines.old.line ≡ [] }
-    ensures { PutsNext W.told lines.old lines.new decoder.old.state decoder.new.state result }
+    ensures puts { PutsNext W.told lines.old lines.new decoder.old.state decoder.new.state result }
+    ensures same { OnOk result (decoder.new.state.fed_len ≡ decoder.old.state.fed_len) }
 {
     match large_event(decoder) {
         Some(event) => put_event(alloc, decoder, event, lines),
@@ -304,9 +317,10 @@ fn put_event<L: GrowingLine>(
     line: &mut L,
 ) -> Result<Next, L::Fault>
     requires { IsWholeEvent decoder.old.state event }
-    ensures { (whole : IsWholeEvent decoder.old.state event)
+    ensures puts { (whole : IsWholeEvent decoder.old.state event)
         → PutsEvent L.grows event whole.at.values line.old line.new decoder.old.state
         decoder.new.state result }
+    ensures same { OnOk result (decoder.new.state.fed_len ≡ decoder.old.state.fed_len) }
 {
     let Some(schema) = decoder.registry().get(event.type_id) else {
         return Err(line.refusal());
@@ -323,8 +337,9 @@ fn put_event<L: GrowingLine>(
 fn push_next_lines(line: &mut String, decoder: &mut FeedDecoder) -> Result<Next, AllocError>
     requires fed { IsFed decoder.old.state }
     requires empty { string_bytes line.old ≡ [] }
-    ensures { IfOk result
+    ensures lines { IfOk result
         (AreNextLines decoder.old.state decoder.new.state (string_bytes line.new)) }
+    ensures same { OnOk result (decoder.new.state.fed_len ≡ decoder.old.state.fed_len) }
 {
     let before = decoder.version();
     let frame = decoder.next_compact();

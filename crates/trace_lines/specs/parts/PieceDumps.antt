@@ -1,12 +1,12 @@
 -- For private contracts: the dump of an input that comes in pieces.
-use Rattle.std.specs.Prelude.{◌≡◌, ℕ, ◌+◌, ◌<◌, false, List, [], ◌++◌, length, Option, None, Some, Result, Ok, Err}
+use Rattle.std.specs.Prelude.{◌≡◌, ℕ, ◌+◌, ◌<◌, ◌≤◌, false, List, [], ◌++◌, length, Option, None, Some, Result, Ok, Err}
 use Rattle.std.specs.Io.KnownBytes.{Consumes}
 use Rattle.trace_values.specs.Number.{AreBytes}
 use Rattle.trace_values.specs.Sending.{Account, TookOnly}
 use Rattle.trace_values.specs.Values.{owned_reader}
 use Rattle.trace_wire.specs.Frames.{empty, header_length}
 use Rattle.trace_wire.specs.Runs.{NoFrame, no_pools, Item}
-use Rattle.dial9_trace_format.specs.Feeding.{FeedState}
+use Rattle.dial9_trace_format.specs.Feeding.{FeedState, greatest_fed}
 use Rattle.dial9_trace_format.specs.declared.decoder.error.DecodeError.{DecodeError}
 use Rattle.dial9_trace_format.specs.declared.decoder.error.DecodeErrorKind.{DecodeErrorKind}
 use Rattle.dial9_trace_format.specs.declared.decoder.error.DecodeErrorKind.TheVariants as error_kinds
@@ -26,6 +26,7 @@ pub record IsDumpRead (before after : Option (List ℕ)) (status : ℕ) (text : 
   pub consumed : Consumes before after read
   pub of_read : IsDump false read status text
   pub of_all : (bytes : List ℕ) → before ≡ Some bytes → IsDump false bytes status text
+  pub few : length read ≤ greatest_fed
 
 -- it went to a writer, and its status is the answer; or a front of it, and then one fault came, or none
 abbrev pub SendsRead : {E : Type 0} → Account → Account → Option (List ℕ) → Option (List ℕ) → Result ℕ E → Type 0
@@ -120,3 +121,8 @@ abbrev pub SendsPiece : {E : Type 0} → Account → Account → FeedState → L
 SendsPiece a b old bytes new (Ok end) = (lines : List ℕ) × ArePieceLines old bytes new lines end
     × TookOnly a b lines []
 SendsPiece a b old bytes new (Err e) = PrintsUpToFault (LinesBegin old bytes) a b
+
+-- the bytes of a piece were counted, and the count is within its range
+pub record CountsPiece (old : FeedState) (piece : List ℕ) (new : FeedState) : Type 0 where
+  pub few : old.fed_len + length piece ≤ greatest_fed
+  pub counted : new.fed_len ≡ old.fed_len + length piece

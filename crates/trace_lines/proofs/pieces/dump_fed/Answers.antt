@@ -1,5 +1,6 @@
 use Rattle.std.proofs.Common.{arith}
-use Rattle.trace_lines.proofs.PiecesSent.{all_dumped, dumped_unsettled, read_dumped, status_known}
+use Rattle.trace_lines.proofs.PiecesSent.{all_dumped, dumped_unsettled, read_dumped, reads_within}
+use Rattle.trace_lines.proofs.PiecesSent.{status_known}
 use Rattle.trace_lines.proofs.pieces.dump_fed.Goals as goal
 
 pub returns-in-Ok-settle-clause-lines : goal.returns-in-Ok-settle-clause-lines
@@ -34,3 +35,6 @@ returns-in-Err-clause-front g c failed = c.in-Err.ensures.0
 
 pub returns-in-Err-clause-front_read : goal.returns-in-Err-clause-front_read
 returns-in-Err-clause-front_read g c failed = c.in-Err.ensures.1
+
+pub returns-in-Ok-settle-clause-within : goal.returns-in-Ok-settle-clause-within
+returns-in-Ok-settle-clause-within g c fine = reads_within c.in-Ok.status c.in-Ok.ensures

@@ -3,11 +3,11 @@ use Rattle.dial9_trace_format.specs.CompactFrames.{compact_item_of}
 use Rattle.dial9_trace_format.specs.DecodedFrames.{next_as}
 use Rattle.trace_lines.specs.parts.PieceDumps.{AreNextLines}
 use Rattle.trace_lines.specs.declared.pieces.Next.TheVariants.{Wait}
-use Rattle.trace_lines.proofs.PulledLines.{first_as, next_ok, stuck_ok, was_ok}
+use Rattle.trace_lines.proofs.PulledLines.{first_as, next_ok, on_ok, pulls_count, stuck_ok, was_ok}
 use Rattle.trace_lines.proofs.pieces.push_next_lines.Goals as goal
 
-pub returns-in-Wait : goal.returns-in-Wait
-returns-in-Wait c =
+pub returns-in-Wait-clause-lines : goal.returns-in-Wait-clause-lines
+returns-in-Wait-clause-lines c =
     let old = c.args.decoder.now.state in
     let new = c.next_compact-frame.new.self.state in
     let first = string_bytes c.push_first_part.new.line in
@@ -22,8 +22,8 @@ returns-in-Wait c =
     stuck_ok old new lines (string_bytes c.push_stuck_line.new.line) c.push_stuck_line.result waits
     c.push_stuck_line.ensures
 
-pub returns-in_default : goal.returns-in_default
-returns-in_default c =
+pub returns-in_default-clause-lines : goal.returns-in_default-clause-lines
+returns-in_default-clause-lines c =
     let old = c.args.decoder.now.state in
     let new = c.next_compact-frame.new.self.state in
     let first = string_bytes c.push_first_part.new.line in
@@ -34,3 +34,9 @@ returns-in_default c =
     c.version-before.ensures c.version.ensures c.requires.empty c.in_ok-push_first_part.ensures)
     c.push_pulled_line.ensures in
     was_ok (AreNextLines old new lines) c.push_pulled_line.result _ c.in_ok-next.was come
+
+pub returns-in-Wait-clause-same : goal.returns-in-Wait-clause-same
+returns-in-Wait-clause-same c = on_ok c.push_stuck_line.result (pulls_count c.next_compact-frame.ensures.pulls)
+
+pub returns-in_default-clause-same : goal.returns-in_default-clause-same
+returns-in_default-clause-same c = pulls_count c.next_compact-frame.ensures.pulls

@@ -21,13 +21,13 @@ pub returns-in_err-status-in-Ok : goal.returns-in_err-status-in-Ok
 returns-in_err-status-in-Ok g c =
     piece_failed _ c.send_piece.new.decoder.state _ _ c.in_err-status-in-Ok.field-0 c.from_residual.result
     c.from_residual.ensures.0
-    c.reads.invariant.sent c.in-Ok.ensures.bytes.0 c.in_err-status-in-Ok.ensures
+    c.reads.invariant.sent c.in-Ok.ensures.bytes.0 c.in_err-status-in-Ok.ensures.sends
 
 pub returns-in-Some : goal.returns-in-Some
 returns-in-Some g c =
-    piece_ends _ c.send_piece.new.decoder.state _ _ c.in-Some.status c.in_ok-status-in-Ok.field-0 c.in-Some.is
+    piece_ends _ c.send_piece.new.decoder.state _ _ c.in-Some.is
     c.reads.invariant.sent
-    c.in-Ok.ensures.bytes.0 c.in_ok-status-in-Ok.ensures
+    c.in-Ok.ensures.bytes.0 c.in_ok-status-in-Ok.ensures.counts c.in_ok-status-in-Ok.ensures.sends
 
 pub returns-then-ne : goal.returns-then-ne
 returns-then-ne g c = front_so_far (nothing_read _ c.reads.invariant.sent c.in-Err.ensures.bytes)
@@ -37,7 +37,7 @@ reads-preserved g c = elim c.match-read.branch [
   | in-Ok+in_ok-status-in-Ok+in_default w ↦ record {
     sent = rw (w.out-is, w.decoder-is)
         (piece_goes_on _ _ _ _ w.in_ok-status-in-Ok.field-0 w.in_default.is c.reads.invariant.sent
-        w.in-Ok.ensures.bytes.0 w.in_ok-status-in-Ok.ensures);
+        w.in-Ok.ensures.bytes.0 w.in_ok-status-in-Ok.ensures.counts w.in_ok-status-in-Ok.ensures.sends);
   }
   | in-Err+else-ne w ↦ record {
     sent = rw (w.out-is, w.decoder-is) (nothing_read _ c.reads.invariant.sent w.in-Err.ensures.bytes);
