@@ -62,12 +62,12 @@ abbrev HasJson : Pools → Value → Type 0
 HasJson p v = (j : Json) × IsValueJson p v j × HasNumbers j
 
 fields_have :
-    (p : Pools) (names : List (List ℕ)) (vs : List Value) (ms : Members) → AreFieldsJson p names vs ms →
+    (p : Pools) (labels : List (List ℕ)) (vs : List Value) (ms : Members) → AreFieldsJson p labels vs ms →
     MembersHaveNumbers (members_of ms) → AllByRecursion (HasJson p) vs
-fields_have p names [] ms is h = tt
-fields_have p names (v ∷ vs) ms is h =
+fields_have p labels [] ms is h = tt
+fields_have p labels (v ∷ vs) ms is h =
     let all = subst (λ (l : Members). MembersHaveNumbers (members_of l)) is.2 h in
-    ((is.0, is.3, all.0), fields_have p (drop 1 names) vs is.1 is.4 all.1)
+    ((is.0, is.3, all.0), fields_have p (drop 1 labels) vs is.1 is.4 all.1)
 
 event_has : (e : ShownEvent) (j : Json) → IsEventJson e j → HasNumbers j → AllByRecursion (HasJson e.pools) e.values
 event_has e j is h =
@@ -378,8 +378,8 @@ read_back name xs told runs tracks frames =
     }
 
 pub sent_reads_back : SentReadsBack
-sent_reads_back name steps a c x y z begins all end numbered runs =
-    let w = whole_sent name steps a c x y z begins all end in
+sent_reads_back name steps a c x y z start all end numbered runs =
+    let w = whole_sent name steps a c x y z start all end in
     let text = w.text in (
       text,
       read_back name text.taken text.told (subst (All IsOfRun) (sym text.events) runs)
