@@ -6,7 +6,6 @@ use dial9_trace_format::decoder::Decoder;
 use dial9_trace_format::leb128::EncodeError;
 use std::alloc::Global;
 use std::process::Abort;
-use std::test::Fail;
 
 /// The number is this one.
 pub fn check_number(rt: &impl Abort, found: u64, wanted: u64) {
@@ -24,12 +23,12 @@ pub fn check_refused(rt: &impl Abort, found: Option<EncodeError>, wanted: Encode
 }
 
 /// How many frames `decode_all` gives.
-pub fn count_all(decoder: &mut Decoder<'_>) -> Result<usize, Fail> {
-    Ok(all(decoder)?.len())
+pub fn count_all(rt: &impl Abort, decoder: &mut Decoder<'_>) -> usize {
+    all(rt, decoder).len()
 }
 
 /// `decode_all` gives so many frames, and the place is then this one.
-pub fn reads_all(alloc: Global, bytes: &[u8], count: usize, place: usize) -> Result<bool, Fail> {
-    let mut decoder = decoder_of(alloc, bytes)?;
-    Ok(count_all(&mut decoder)? == count && decoder.position() == place)
+pub fn reads_all(rt: &impl Abort, alloc: Global, bytes: &[u8], count: usize, place: usize) -> bool {
+    let mut decoder = decoder_of(rt, alloc, bytes);
+    count_all(rt, &mut decoder) == count && decoder.position() == place
 }

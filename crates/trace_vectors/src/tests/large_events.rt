@@ -4,8 +4,8 @@ use crate::tests::ample::events::event;
 use crate::tests::ample::{SIZED, spelled};
 use crate::tests::pieces::read_in;
 use dial9_trace_format::types::FieldType;
-use std::alloc::{AllocError, Global};
-use std::test::Fail;
+use std::alloc::Global;
+use std::process::Abort;
 use trace_lines::dump::WHOLE;
 use trace_lines::pieces::dump_pieces;
 
@@ -43,53 +43,52 @@ const TEXTS: &str =
                      Varint:5,Varint:6,Varint:7,List:[Bool:false],Map:{Bool:true=Bool:false}";
 
 /// The trace of that event.
-fn trace(alloc: Global) -> Result<Vec<u8>, AllocError> {
-    let mut bytes = Vec::from_slice(alloc, &FRONT)?;
+fn trace(rt: &impl Abort, alloc: Global) -> Vec<u8> {
+    let mut bytes = Vec::from_slice(alloc, &FRONT).expect(rt, "memory");
     for _ in 0..TIMES {
-        bytes.extend_from_slice(&ITEMS)?;
+        bytes.extend_from_slice(&ITEMS).expect(rt, "memory");
     }
-    Ok(bytes)
+    bytes
 }
 
 /// Its lines.
-fn lines(alloc: Global) -> Result<String, AllocError> {
+fn lines(rt: &impl Abort, alloc: Global) -> String {
     let mut text = String::new(alloc);
-    text.push_str(FIRST)?;
+    text.push_str(FIRST).expect(rt, "memory");
     for nth in 0..TIMES {
-        text.push_str(if nth == 0 { "" } else { "," })?;
-        text.push_str(TEXTS)?;
+        text.push_str(if nth == 0 { "" } else { "," })
+            .expect(rt, "memory");
+        text.push_str(TEXTS).expect(rt, "memory");
     }
-    text.push_str("]\nend whole\n")?;
-    Ok(text)
+    text.push_str("]\nend whole\n").expect(rt, "memory");
+    text
 }
 
 #[test]
-fn items_of_each_type(rt: HostRuntime) -> Result<(), Fail> {
-    let bytes = trace(rt.alloc())?;
-    let lines = lines(rt.alloc())?;
+fn items_of_each_type(rt: HostRuntime) {
+    let bytes = trace(&rt, rt.alloc());
+    let lines = lines(&rt, rt.alloc());
     for step in [1_000, 4_096usize] {
         let mut out: Vec<u8> = Vec::new(rt.alloc());
         let status = dump_pieces(rt.alloc(), &mut read_in(&bytes, step, 100), &mut out);
         assert!(rt; status == WHOLE);
         assert!(rt; out.as_slice() == lines.as_bytes());
     }
-    Ok(())
 }
 
 /// An event of a value of this size is dumped to the end.
-fn is_dumped(alloc: Global, field_type: FieldType, size: usize) -> Result<bool, Fail> {
-    let bytes = event(alloc, field_type, &spelled(alloc, field_type, size)?)?;
+fn is_dumped(rt: &impl Abort, alloc: Global, field_type: FieldType, size: usize) -> bool {
+    let bytes = event(rt, alloc, field_type, &spelled(rt, alloc, field_type, size));
     let mut out: Vec<u8> = Vec::new(alloc);
     let status = dump_pieces(alloc, &mut read_in(&bytes, 4_096, 1_000), &mut out);
-    Ok(status == WHOLE)
+    status == WHOLE
 }
 
 #[test]
-fn values_of_each_type(rt: HostRuntime) -> Result<(), Fail> {
+fn values_of_each_type(rt: HostRuntime) {
     for field_type in SIZED {
         for size in [4_097, 16_384, 65_536usize] {
-            assert!(rt; is_dumped(rt.alloc(), field_type, size)?);
+            assert!(rt; is_dumped(&rt, rt.alloc(), field_type, size));
         }
     }
-    Ok(())
 }

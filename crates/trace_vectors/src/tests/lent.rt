@@ -10,7 +10,7 @@ use dial9_trace_format::leb128::{EncodeError, TraceWrite};
 use std::alloc::Global;
 use std::io;
 use std::io::ErrorKind;
-use std::test::Fail;
+use std::process::Abort;
 use trace_samples::{Manner, Told};
 use trace_values::leb128::Faults;
 
@@ -71,17 +71,16 @@ const CONFLICT: [u8; 23] = [
 ];
 
 /// A decoder that failed by a conflict gives no encoder.
-fn is_not_resumed(alloc: Global, told: &mut Told) -> Result<bool, Fail> {
-    let mut decoder = decoder_of(alloc, &CONFLICT)?;
-    let count = decoder.decode_all()?.len();
+fn is_not_resumed(rt: &impl Abort, alloc: Global, told: &mut Told) -> bool {
+    let mut decoder = decoder_of(rt, alloc, &CONFLICT);
+    let count = decoder.decode_all().expect(rt, "frames").len();
     let refused = decoder.into_encoder(Lent(told)).err();
-    Ok(count == 1 && refused == Some(EncodeError::Failed))
+    count == 1 && refused == Some(EncodeError::Failed)
 }
 
 #[test]
-fn a_refused_resumption_leaves_its_writer(rt: HostRuntime) -> Result<(), Fail> {
+fn a_refused_resumption_leaves_its_writer(rt: HostRuntime) {
     let mut told = Told::new(stepping(1));
-    assert!(rt; is_not_resumed(rt.alloc(), &mut told)?);
+    assert!(rt; is_not_resumed(&rt, rt.alloc(), &mut told));
     assert!(rt; tells(&told, &[], Faults::NoFault, true));
-    Ok(())
 }

@@ -9,7 +9,6 @@ use dial9_trace_format::types::{FieldType, FieldValue};
 use std::alloc::Global;
 use std::io::ErrorKind;
 use std::process::Abort;
-use std::test::Fail;
 use trace_samples::{Manner, Told};
 use trace_values::leb128::Faults;
 
@@ -72,20 +71,32 @@ fn trace_of(work: Work) -> &'static [u8] {
     }
 }
 
-fn register_schema(alloc: Global, encoder: &mut Encoder<Told>) -> Result<(), EncodeError> {
-    let fields = one_definition(alloc, "v", FieldType::Varint)?;
+fn register_schema(
+    rt: &impl Abort,
+    alloc: Global,
+    encoder: &mut Encoder<Told>,
+) -> Result<(), EncodeError> {
+    let fields = one_definition(rt, alloc, "v", FieldType::Varint);
     encoder.register_schema("Ev", fields)?;
     Ok(())
 }
 
-fn register_existing(alloc: Global, encoder: &mut Encoder<Told>) -> Result<(), EncodeError> {
-    let schema = ev(alloc)?;
+fn register_existing(
+    rt: &impl Abort,
+    alloc: Global,
+    encoder: &mut Encoder<Told>,
+) -> Result<(), EncodeError> {
+    let schema = ev(rt, alloc);
     encoder.register_existing(&schema)?;
     Ok(())
 }
 
-fn write_event(alloc: Global, encoder: &mut Encoder<Told>) -> Result<(), EncodeError> {
-    let schema = ev(alloc)?;
+fn write_event(
+    rt: &impl Abort,
+    alloc: Global,
+    encoder: &mut Encoder<Told>,
+) -> Result<(), EncodeError> {
+    let schema = ev(rt, alloc);
     encoder.write_event(&schema, 1_000, &[FieldValue::Varint(42)])
 }
 
@@ -106,11 +117,16 @@ fn write_stack_pool(alloc: Global, encoder: &mut Encoder<Told>) -> Result<(), En
 }
 
 /// Makes the call.
-fn make(alloc: Global, encoder: &mut Encoder<Told>, work: Work) -> Result<(), EncodeError> {
+fn make(
+    rt: &impl Abort,
+    alloc: Global,
+    encoder: &mut Encoder<Told>,
+    work: Work,
+) -> Result<(), EncodeError> {
     match work {
-        Work::RegisterSchema => register_schema(alloc, encoder),
-        Work::RegisterExisting => register_existing(alloc, encoder),
-        Work::Event => write_event(alloc, encoder),
+        Work::RegisterSchema => register_schema(rt, alloc, encoder),
+        Work::RegisterExisting => register_existing(rt, alloc, encoder),
+        Work::Event => write_event(rt, alloc, encoder),
         Work::Text => {
             encoder.intern_string("hello")?;
             Ok(())
@@ -126,13 +142,14 @@ fn make(alloc: Global, encoder: &mut Encoder<Told>, work: Work) -> Result<(), En
 
 /// The encoder answers that it failed; its writer took these bytes, tells one fault, and settled nothing.
 fn is_failed(
+    rt: &impl Abort,
     alloc: Global,
     encoder: &mut Encoder<Told>,
     work: Work,
     sent: &[u8],
     kind: ErrorKind,
 ) -> bool {
-    let is_refused = make(alloc, encoder, work) == Err(EncodeError::Failed);
+    let is_refused = make(rt, alloc, encoder, work) == Err(EncodeError::Failed);
     let is_counted = Encoder::bytes_written(encoder) == sent.len() as u64;
     let faults = Faults::OneFault(kind);
     is_refused && is_counted && tells(encoder.as_inner(), sent, faults, false)
@@ -147,7 +164,7 @@ fn check_failed(
     kind: ErrorKind,
 ) {
     for work in EACH {
-        assert!(rt; is_failed(alloc, encoder, work, sent, kind));
+        assert!(rt; is_failed(rt, alloc, encoder, work, sent, kind));
     }
 }
 
@@ -160,7 +177,7 @@ fn check_stopped(
     manner: Manner,
 ) {
     let kind = kind_of(manner);
-    let answer = make(alloc, encoder, work);
+    let answer = make(rt, alloc, encoder, work);
     assert!(rt; answer == Err(EncodeError::Writer(kind)));
     let sent = trace_of(work).get(..manner.place).unwrap_or(&[]);
     check_failed(rt, alloc, encoder, sent, kind);
@@ -201,48 +218,33 @@ fn each_call_stops_where_the_writer_fails(rt: HostRuntime) {
 }
 
 /// All of the call is sent, and nothing settled.
-fn is_sent_whole(
-    alloc: Global,
-    encoder: &mut Encoder<Told>,
-    work: Work,
-) -> Result<bool, EncodeError> {
-    make(alloc, encoder, work)?;
+fn is_sent_whole(rt: &impl Abort, alloc: Global, encoder: &mut Encoder<Told>, work: Work) -> bool {
+    make(rt, alloc, encoder, work).expect(rt, "no refusal");
     let bytes = trace_of(work);
     let is_counted = Encoder::bytes_written(encoder) == bytes.len() as u64;
-    Ok(is_counted && tells(encoder.as_inner(), bytes, Faults::NoFault, false))
+    is_counted && tells(encoder.as_inner(), bytes, Faults::NoFault, false)
 }
 
 /// The same call, where all is known, meets no fault.
-fn is_made_again(
-    alloc: Global,
-    encoder: &mut Encoder<Told>,
-    work: Work,
-) -> Result<bool, EncodeError> {
-    make(alloc, encoder, work)?;
-    Ok(encoder.as_inner().faults() == Faults::NoFault)
+fn is_made_again(rt: &impl Abort, alloc: Global, encoder: &mut Encoder<Told>, work: Work) -> bool {
+    make(rt, alloc, encoder, work).expect(rt, "no refusal");
+    encoder.as_inner().faults() == Faults::NoFault
 }
 
 /// The call over a writer that does not fail, or would fail to settle: all is sent, and nothing settled, nor where
 /// all is known.
-fn check_whole(
-    rt: &impl Abort,
-    alloc: Global,
-    work: Work,
-    manner: Manner,
-) -> Result<(), EncodeError> {
-    let mut encoder = Encoder::new_to(alloc, Told::new(manner))?;
-    assert!(rt; is_sent_whole(alloc, &mut encoder, work)?);
-    assert!(rt; is_made_again(alloc, &mut encoder, work)?);
-    Ok(())
+fn check_whole(rt: &impl Abort, alloc: Global, work: Work, manner: Manner) {
+    let mut encoder = Encoder::new_to(alloc, Told::new(manner)).expect(rt, "no refusal");
+    assert!(rt; is_sent_whole(rt, alloc, &mut encoder, work));
+    assert!(rt; is_made_again(rt, alloc, &mut encoder, work));
 }
 
 #[test]
-fn each_call_sends_all_in_any_steps(rt: HostRuntime) -> Result<(), Fail> {
+fn each_call_sends_all_in_any_steps(rt: HostRuntime) {
     for work in EACH {
         for step in [1, 3, 1_024usize] {
-            check_whole(&rt, rt.alloc(), work, stepping(step))?;
+            check_whole(&rt, rt.alloc(), work, stepping(step));
         }
-        check_whole(&rt, rt.alloc(), work, unsettling(ErrorKind::StorageFull))?;
+        check_whole(&rt, rt.alloc(), work, unsettling(ErrorKind::StorageFull));
     }
-    Ok(())
 }

@@ -4,7 +4,7 @@ use crate::tests::calls::decoder_of;
 use crate::tests::mixed::{Given, Reader, give};
 use dial9_trace_format::decoder::{DecodedFrame, DecodedFrameRef, Decoder};
 use std::alloc::Global;
-use std::test::Fail;
+use std::process::Abort;
 
 /// The copy of the frame is equal to it.
 fn is_copied(alloc: Global, found: &DecodedFrameRef<'_>) -> bool {
@@ -51,9 +51,9 @@ fn gives_so_many(decoder: &mut Decoder<'_>, count: usize, end: usize) -> bool {
 }
 
 /// A new decoder's does.
-fn gives_events(alloc: Global, bytes: &[u8], count: usize) -> Result<bool, Fail> {
-    let mut decoder = decoder_of(alloc, bytes)?;
-    Ok(gives_so_many(&mut decoder, count, bytes.len()))
+fn gives_events(rt: &impl Abort, alloc: Global, bytes: &[u8], count: usize) -> bool {
+    let mut decoder = decoder_of(rt, alloc, bytes);
+    gives_so_many(&mut decoder, count, bytes.len())
 }
 
 /// How many of the frames are events.
@@ -68,8 +68,8 @@ fn events_of(frames: &[DecodedFrame]) -> usize {
 }
 
 /// The borrowed frames of the trace are these, to its end, and all events are given.
-pub fn is_borrowed(alloc: Global, bytes: &[u8], frames: &[DecodedFrame]) -> Result<bool, Fail> {
-    let mut decoder = decoder_of(alloc, bytes)?;
+pub fn is_borrowed(rt: &impl Abort, alloc: Global, bytes: &[u8], frames: &[DecodedFrame]) -> bool {
+    let mut decoder = decoder_of(rt, alloc, bytes);
     let is_whole = gives_those(alloc, &mut decoder, frames) && decoder.position() == bytes.len();
-    Ok(is_whole && gives_events(alloc, bytes, events_of(frames))?)
+    is_whole && gives_events(rt, alloc, bytes, events_of(frames))
 }

@@ -4,24 +4,24 @@ use crate::tests::ample::COUNTS;
 use dial9_trace_format::codec::compile;
 use dial9_trace_format::schema::FieldDef;
 use dial9_trace_format::types::FieldType;
-use std::alloc::{AllocError, Global};
+use std::alloc::Global;
 use std::process::Abort;
-use std::test::Fail;
 
 /// So many fields of the two types in turn.
 fn fields_in_turn(
+    rt: &impl Abort,
     alloc: Global,
     count: usize,
     first: FieldType,
     second: FieldType,
-) -> Result<Vec<FieldDef>, AllocError> {
+) -> Vec<FieldDef> {
     let mut fields = Vec::new(alloc);
     for nth in 0..count {
         let field_type = if nth % 2 == 0 { first } else { second };
-        let field = FieldDef::new(alloc, "", field_type)?;
-        fields.push(field)?;
+        let field = FieldDef::new(alloc, "", field_type).expect(rt, "memory");
+        fields.push(field).expect(rt, "memory");
     }
-    Ok(fields)
+    fields
 }
 
 /// Fields of these types in turn have so many steps.
@@ -31,20 +31,18 @@ fn check_layout(
     count: usize,
     types: (FieldType, FieldType),
     steps: usize,
-) -> Result<(), Fail> {
-    let fields = fields_in_turn(alloc, count, types.0, types.1)?;
-    let layout = compile(alloc, &fields)?;
+) {
+    let fields = fields_in_turn(rt, alloc, count, types.0, types.1);
+    let layout = compile(alloc, &fields).expect(rt, "no refusal");
     assert!(rt; layout.steps().len() == steps);
-    Ok(())
 }
 
 #[test]
-fn layouts_of_each_count(rt: HostRuntime) -> Result<(), Fail> {
+fn layouts_of_each_count(rt: HostRuntime) {
     let (fixed, open) = (FieldType::U32, FieldType::Varint);
     for count in COUNTS {
-        check_layout(&rt, rt.alloc(), count, (fixed, FieldType::U8), count.min(1))?;
-        check_layout(&rt, rt.alloc(), count, (fixed, open), count)?;
-        check_layout(&rt, rt.alloc(), count, (open, open), count)?;
+        check_layout(&rt, rt.alloc(), count, (fixed, FieldType::U8), count.min(1));
+        check_layout(&rt, rt.alloc(), count, (fixed, open), count);
+        check_layout(&rt, rt.alloc(), count, (open, open), count);
     }
-    Ok(())
 }

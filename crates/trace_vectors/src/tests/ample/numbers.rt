@@ -1,15 +1,14 @@
 //! Values that have no size, and the absent value.
 
 use crate::tests::calls::encoded;
-use crate::tests::read_values::{check_read, is_copied};
-use dial9_trace_format::leb128::{EncodeError, encode_unsigned};
+use crate::tests::read_values::{check_read, is_copied, is_owned, is_ref_copied};
+use dial9_trace_format::leb128::encode_unsigned;
 use dial9_trace_format::types::{
     EventEncoder, F64Bits, FieldType, FieldValue, FieldValueRef, InternedStackFrames,
     InternedString, TraceField,
 };
-use std::alloc::{AllocError, Global};
+use std::alloc::Global;
 use std::process::Abort;
-use std::test::Fail;
 use trace_values::leb128::push_number;
 
 /// A value of each type that has no size, and how many bytes spell it by the type.
@@ -34,30 +33,29 @@ fn each_kind() -> [(FieldType, FieldValue, usize); 9] {
 }
 
 /// The value as a field of this type.
-pub fn field(
-    alloc: Global,
-    field_type: FieldType,
-    value: &FieldValue,
-) -> Result<Vec<u8>, EncodeError> {
+pub fn field(rt: &impl Abort, alloc: Global, field_type: FieldType, value: &FieldValue) -> Vec<u8> {
     let mut out = Vec::new(alloc);
-    EventEncoder::new(&mut out).write_field_value(value, field_type)?;
-    Ok(out)
+    EventEncoder::new(&mut out)
+        .write_field_value(value, field_type)
+        .expect(rt, "no refusal");
+    out
 }
 
 /// The value is copied, and written by its own kind.
-fn is_written(alloc: Global, value: &FieldValue) -> Result<bool, Fail> {
-    Ok(is_copied(alloc, value)? && !encoded(alloc, value)?.is_empty())
+fn is_written(rt: &impl Abort, alloc: Global, value: &FieldValue) -> bool {
+    is_copied(rt, alloc, value) && !encoded(rt, alloc, value).is_empty()
 }
 
 /// The field of the optional type has these bytes after one of presence.
 pub fn is_optional(
+    rt: &impl Abort,
     alloc: Global,
     field_type: FieldType,
     value: &FieldValue,
     bytes: &[u8],
-) -> Result<bool, EncodeError> {
-    let optional = field(alloc, field_type.optional(), value)?;
-    Ok(optional.as_slice().get(1..) == Some(bytes))
+) -> bool {
+    let optional = field(rt, alloc, field_type.optional(), value);
+    optional.as_slice().get(1..) == Some(bytes)
 }
 
 /// The value as a field, and read back.
@@ -67,83 +65,78 @@ fn check_field(
     field_type: FieldType,
     value: &FieldValue,
     length: usize,
-) -> Result<(), Fail> {
-    let bytes = field(alloc, field_type, value)?;
+) {
+    let bytes = field(rt, alloc, field_type, value);
     assert!(rt; bytes.len() == length);
-    assert!(rt; is_optional(alloc, field_type, value, &bytes)?);
+    assert!(rt; is_optional(rt, alloc, field_type, value, &bytes));
     check_read(rt, alloc, field_type, &bytes, value)
 }
 
 /// A borrowed absent value is copied, and owned.
-fn is_none_copied(alloc: Global) -> Result<bool, AllocError> {
-    let is_owned = FieldValueRef::None.to_owned(alloc)? == FieldValue::None;
-    Ok(is_owned && FieldValueRef::None.clone(alloc)? == FieldValueRef::None)
+fn is_none_copied(rt: &impl Abort, alloc: Global) -> bool {
+    let none = FieldValueRef::None;
+    is_owned(rt, alloc, &none, &FieldValue::None) && is_ref_copied(rt, alloc, &none)
 }
 
 /// An absent field of this type is one byte.
-fn is_absent(alloc: Global, field_type: FieldType) -> Result<bool, EncodeError> {
-    Ok(field(alloc, field_type, &FieldValue::None)?.as_slice() == [0].as_slice())
+fn is_absent(rt: &impl Abort, alloc: Global, field_type: FieldType) -> bool {
+    field(rt, alloc, field_type, &FieldValue::None).as_slice() == [0].as_slice()
 }
 
 #[test]
-fn fields_without_a_size(rt: HostRuntime) -> Result<(), Fail> {
+fn fields_without_a_size(rt: HostRuntime) {
     for (field_type, value, length) in each_kind() {
-        assert!(rt; is_written(rt.alloc(), &value)?);
-        check_field(&rt, rt.alloc(), field_type, &value, length)?;
+        assert!(rt; is_written(&rt, rt.alloc(), &value));
+        check_field(&rt, rt.alloc(), field_type, &value, length);
     }
-    Ok(())
 }
 
 #[test]
-fn absent_fields(rt: HostRuntime) -> Result<(), Fail> {
-    assert!(rt; is_written(rt.alloc(), &FieldValue::None)?);
-    assert!(rt; is_none_copied(rt.alloc())?);
+fn absent_fields(rt: HostRuntime) {
+    assert!(rt; is_written(&rt, rt.alloc(), &FieldValue::None));
+    assert!(rt; is_none_copied(&rt, rt.alloc()));
     for tag in 0x81..=0x8Fu8 {
-        let field_type = FieldType::from_tag(tag).ok_or("no type")?;
-        assert!(rt; is_absent(rt.alloc(), field_type)?);
+        let field_type = FieldType::from_tag(tag).expect(&rt, "a type");
+        assert!(rt; is_absent(&rt, rt.alloc(), field_type));
     }
-    Ok(())
 }
 
 /// Writes an absent field of each type that has an own call, and a present one.
-fn write_none(encoder: &mut EventEncoder<'_>) -> Result<(), EncodeError> {
-    None::<u8>.encode(encoder)?;
-    None::<u64>.encode(encoder)?;
-    None::<bool>.encode(encoder)?;
-    None::<String>.encode(encoder)?;
-    None::<Vec<u8>>.encode(encoder)?;
-    Some(F64Bits(1)).encode(encoder)
+fn write_none(rt: &impl Abort, encoder: &mut EventEncoder<'_>) {
+    None::<u8>.encode(encoder).expect(rt, "no refusal");
+    None::<u64>.encode(encoder).expect(rt, "no refusal");
+    None::<bool>.encode(encoder).expect(rt, "no refusal");
+    None::<String>.encode(encoder).expect(rt, "no refusal");
+    None::<Vec<u8>>.encode(encoder).expect(rt, "no refusal");
+    Some(F64Bits(1)).encode(encoder).expect(rt, "no refusal")
 }
 
 /// What that writes.
-fn none_of_each(alloc: Global) -> Result<Vec<u8>, EncodeError> {
+fn none_of_each(rt: &impl Abort, alloc: Global) -> Vec<u8> {
     let mut out = Vec::new(alloc);
-    write_none(&mut EventEncoder::new(&mut out))?;
-    Ok(out)
+    write_none(rt, &mut EventEncoder::new(&mut out));
+    out
 }
 
 #[test]
-fn absent_fields_of_rust_types(rt: HostRuntime) -> Result<(), Fail> {
+fn absent_fields_of_rust_types(rt: HostRuntime) {
     let wanted = [0, 0, 0, 0, 0, 1, 1, 0, 0, 0, 0, 0, 0, 0];
-    assert!(rt; none_of_each(rt.alloc())?.as_slice() == wanted.as_slice());
-    Ok(())
+    assert!(rt; none_of_each(&rt, rt.alloc()).as_slice() == wanted.as_slice());
 }
 
 /// Sends the number to the one, and pushes it to the other.
-fn push_both(sent: &mut Vec<u8>, pushed: &mut Vec<u8>, number: u64) -> Result<(), EncodeError> {
-    encode_unsigned(number, sent)?;
-    push_number(pushed, number)?;
-    Ok(())
+fn push_both(rt: &impl Abort, sent: &mut Vec<u8>, pushed: &mut Vec<u8>, number: u64) {
+    encode_unsigned(number, sent).expect(rt, "no refusal");
+    push_number(pushed, number).expect(rt, "no refusal");
 }
 
 #[test]
-fn numbers_of_each_length(rt: HostRuntime) -> Result<(), Fail> {
+fn numbers_of_each_length(rt: HostRuntime) {
     let mut sent = Vec::new(rt.alloc());
     let mut pushed = Vec::new(rt.alloc());
     for bits in 0..64u32 {
-        push_both(&mut sent, &mut pushed, 1 << bits)?;
+        push_both(&rt, &mut sent, &mut pushed, 1 << bits);
     }
     assert!(rt; sent.len() == 325);
     assert!(rt; pushed.as_slice() == sent.as_slice());
-    Ok(())
 }
