@@ -3,9 +3,11 @@
 mod batches;
 mod conversions;
 mod cuts;
+mod fed;
 mod folded;
 mod fronts;
 mod lines;
+mod made;
 mod pages;
 mod roles;
 mod segments;

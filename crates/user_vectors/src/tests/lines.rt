@@ -1,8 +1,8 @@
 //! Traces written by hand after docs/FORMAT.md, and their lines as Python's `json` prints them.
 
-use dial9_trace_format::decoder::{Decoder, EventSink, FeedDecoder, RawEvent};
+use crate::tests::fed::{Takes, takes_all};
+use dial9_trace_format::decoder::{Decoder, EventSink, RawEvent};
 use std::alloc::{AllocError, Global};
-use std::test::Fail;
 use trace_events::event::OwnedEvent;
 use trace_json::line::{push_event_line, push_owned_event_line};
 
@@ -102,53 +102,41 @@ impl<'a> EventSink<'a, AllocError> for Lines {
     }
 }
 
-/// Whether a trace has exactly these lines.
-fn has_lines(alloc: Global, trace: &[u8], wanted: &str) -> bool {
-    let mut lines = Lines {
+impl Takes for Lines {
+    fn take(&mut self, event: &OwnedEvent<'_>) -> bool {
+        push_owned_event_line(self.alloc, &mut self.text, event).is_ok()
+    }
+}
+
+/// No lines yet.
+fn no_lines(alloc: Global) -> Lines {
+    Lines {
         alloc,
         text: Vec::new(alloc),
-    };
+    }
+}
+
+/// Whether a trace has exactly these lines.
+fn has_lines(alloc: Global, trace: &[u8], wanted: &str) -> bool {
+    let mut lines = no_lines(alloc);
     let Some(mut decoder) = Decoder::new(alloc, trace) else {
         return false;
     };
-    match decoder.try_for_each_event(&mut lines) {
-        Ok(()) => lines.text.as_slice() == wanted.as_bytes(),
-        Err(_) => false,
-    }
+    decoder.try_for_each_event(&mut lines).is_ok() && lines.text.as_slice() == wanted.as_bytes()
 }
 
 /// Whether the frames of a trace that is fed have exactly these lines.
 fn has_owned_lines(alloc: Global, trace: &[u8], wanted: &str) -> bool {
-    let mut decoder = FeedDecoder::new(alloc);
-    let mut text = Vec::new(alloc);
-    if decoder.push(trace).is_err() {
-        return false;
-    }
-    for _ in 0..trace.len() {
-        let Ok(Some(frame)) = decoder.next_frame() else {
-            break;
-        };
-        let (registry, strings, stacks) = (
-            decoder.registry(),
-            decoder.string_pool(),
-            decoder.stack_pool(),
-        );
-        if let Some(event) = OwnedEvent::of_frame(&frame, registry, strings, stacks) {
-            if push_owned_event_line(alloc, &mut text, &event).is_err() {
-                return false;
-            }
-        }
-    }
-    text.as_slice() == wanted.as_bytes()
+    let mut lines = no_lines(alloc);
+    takes_all(alloc, trace, &mut lines) && lines.text.as_slice() == wanted.as_bytes()
 }
 
 #[test]
-fn rows(rt: HostRuntime) -> Result<(), Fail> {
+fn rows(rt: HostRuntime) {
     let alloc = rt.alloc();
     for (trace, wanted) in ROWS {
-        let trace = hex::decode(alloc, trace)?;
+        let trace = hex::decode(alloc, trace).expect(&rt, "memory");
         assert!(rt; has_lines(alloc, &trace, wanted));
         assert!(rt; has_owned_lines(alloc, &trace, wanted));
     }
-    Ok(())
 }

@@ -1,8 +1,8 @@
 //! The data of a page, against what tools/page makes of the same trace.
 
-use dial9_trace_format::decoder::FeedDecoder;
-use std::alloc::{AllocError, Global};
-use std::test::Fail;
+use crate::tests::fed::{Takes, takes_all};
+use std::alloc::Global;
+use std::process::Abort;
 use trace_events::event::OwnedEvent;
 use trace_page::data::PageData;
 use trace_page::escaping::push_escaped;
@@ -36,50 +36,47 @@ const DATA: &str =
      {\"name\":\"other\",\"type\":8,\"unit\":null,\"counter\":null}]}],\"clocks\":[[0,\"-5\"],[8,null]],\
      \"start\":\"1\",\"end\":\"cut\",\"name\":\"a<b\"}";
 
-// The data of a trace, where each event is said to have ten bytes.
-fn data_of(alloc: Global, trace: &[u8]) -> Result<PageData, AllocError> {
-    let mut decoder = FeedDecoder::new(alloc);
-    let mut data = PageData::new(alloc)?;
-    if decoder.push(trace).is_err() {
-        return Err(AllocError);
+/// The data of events, each of which is said to have ten bytes.
+#[derive(Drop)]
+struct Paging {
+    data: PageData,
+}
+
+impl Takes for Paging {
+    fn take(&mut self, event: &OwnedEvent<'_>) -> bool {
+        self.data.add(event, 10).is_ok()
     }
-    for _ in 0..trace.len() {
-        let Ok(Some(frame)) = decoder.next_frame() else {
-            break;
-        };
-        let (registry, strings, pool) = (
-            decoder.registry(),
-            decoder.string_pool(),
-            decoder.stack_pool(),
-        );
-        if let Some(event) = OwnedEvent::of_frame(&frame, registry, strings, pool) {
-            data.add(&event, 10)?;
-        }
-    }
-    Ok(data)
+}
+
+/// The data of a trace, where each event is said to have ten bytes.
+fn data_of(rt: &impl Abort, alloc: Global, trace: &[u8]) -> PageData {
+    let mut paging = Paging {
+        data: PageData::new(alloc).expect(rt, "memory"),
+    };
+    assert!(rt; takes_all(alloc, trace, &mut paging));
+    paging.data
 }
 
 #[test]
-fn data_of_events(rt: HostRuntime) -> Result<(), Fail> {
+fn data_of_events(rt: HostRuntime) {
     let alloc = rt.alloc();
-    let trace = hex::decode(alloc, EVENTS)?;
-    let mut data = data_of(alloc, &trace)?;
-    data.end_file(Some(-5))?;
-    data.end_file(None)?;
-    let text = data.finish("a<b", Some("cut"))?;
+    let trace = hex::decode(alloc, EVENTS).expect(&rt, "memory");
+    let mut data = data_of(&rt, alloc, &trace);
+    data.end_file(Some(-5)).expect(&rt, "no refusal");
+    data.end_file(None).expect(&rt, "no refusal");
+    let text = data.finish("a<b", Some("cut")).expect(&rt, "no refusal");
     assert!(rt; text.as_slice() == DATA.as_bytes());
-    Ok(())
 }
 
-#[test]
-fn data_of_no_event(rt: HostRuntime) -> Result<(), Fail> {
-    let alloc = rt.alloc();
-    let text = PageData::new(alloc)?.finish("a<b", None)?;
-    let mut escaped = Vec::new(alloc);
-    push_escaped(&mut escaped, &text)?;
-    let wanted =
-        "{\"format\":1,\"events\":{\"values\":[],\"time\":[],\"schema\":[]},\"stacks\":[],\"strings\":[],\
+const ESCAPED: &str =
+    "{\"format\":1,\"events\":{\"values\":[],\"time\":[],\"schema\":[]},\"stacks\":[],\"strings\":[],\
      \"schemas\":[],\"clocks\":[],\"start\":\"0\",\"end\":null,\"name\":\"a\\u003cb\"}";
-    assert!(rt; escaped.as_slice() == wanted.as_bytes());
-    Ok(())
+
+#[test]
+fn data_of_no_event(rt: HostRuntime) {
+    let data = PageData::new(rt.alloc()).expect(&rt, "memory");
+    let text = data.finish("a<b", None).expect(&rt, "no refusal");
+    let mut escaped = Vec::new(rt.alloc());
+    push_escaped(&mut escaped, &text).expect(&rt, "memory");
+    assert!(rt; escaped.as_slice() == ESCAPED.as_bytes());
 }
