@@ -1,5 +1,8 @@
 //! The clocks of traces, which dates go by (docs/ROLES.md, "Clocks").
 
+ghost use Rattle.std.specs.Prelude.{◌≡◌, None, codes};
+ghost use Rattle.gotymbe_plan.specs.Moments.{IsAnyDate};
+
 use crate::output::standing;
 use crate::pieces::{FrameSink, feed, read_named};
 use crate::tasks::Call;
@@ -63,7 +66,10 @@ pub(crate) fn zero_of(
     rt: &(impl AllocGlobal + Files<File = File> + Input + Eprint + Clock),
     call: &Call<'_>,
     name: &str,
-) -> Option<i64> {
+) -> Option<i64>
+    ensures undated { ¬ IsAnyDate call.now.from call.now.to → result ≡ None }
+    ensures standard { name.now ≡ codes "-" → result ≡ None }
+{
     if !call.has_dates() || name == "-" || standing(rt, name) != Standing::File {
         return None;
     }
@@ -73,7 +79,9 @@ pub(crate) fn zero_of(
 }
 
 /// The zero of the first clock that a trace says, where a date is asked for.
-pub(crate) fn zero_in(alloc: Global, call: &Call<'_>, trace: &[u8]) -> Option<i64> {
+pub(crate) fn zero_in(alloc: Global, call: &Call<'_>, trace: &[u8]) -> Option<i64>
+    ensures { ¬ IsAnyDate call.now.from call.now.to → result ≡ None }
+{
     if !call.has_dates() {
         return None;
     }

@@ -161,15 +161,7 @@ pub(crate) fn read_all(
     };
     match read {
         Ok(_) => Ok(bytes),
-        Err(error) => Err(unread(error.kind())),
-    }
-}
-
-/// Why bytes can't be had, by the kind of error.
-pub(crate) fn unread(kind: ErrorKind) -> Ending {
-    match kind {
-        ErrorKind::OutOfMemory => Ending::OutOfMemory,
-        _ => Ending::Unread(kind),
+        Err(error) => Err(Ending::of_unread(error.kind())),
     }
 }
 

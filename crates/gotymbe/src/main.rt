@@ -3,6 +3,9 @@
 //! `gotymbe_plan`; here that is joined.
 #![tactic(auto)]
 
+ghost use Rattle.std.specs.Prelude.{◌≡◌, ◌≢◌, IfOk};
+ghost use Rattle.std.specs.declared.io.ErrorKind.TheVariants.{InvalidData};
+
 mod clocks;
 mod events;
 mod follow;
@@ -68,7 +71,10 @@ fn run(
 }
 
 // Tells why the words of the call can't be had, and answers the status.
-fn tell_no_words(rt: &impl Eprint, kind: io::ErrorKind) -> u8 {
+fn tell_no_words(rt: &impl Eprint, kind: io::ErrorKind) -> u8
+    ensures no_text { kind ≡ InvalidData → result ≡ 64 }
+    ensures memory { kind ≢ InvalidData → result ≡ 4 }
+{
     match kind {
         io::ErrorKind::InvalidData => {
             let _ = eprintln!(rt; "error: a word of the call is no text in UTF-8");
@@ -111,7 +117,9 @@ fn tell_no_moment(
     rt: &(impl AllocGlobal + Eprint),
     option: &str,
     text: &str,
-) -> anyhow::Result<u8> {
+) -> anyhow::Result<u8>
+    ensures { IfOk result (λ status. status ≡ 64) }
+{
     let mut line = String::new(rt.alloc());
     push_no_moment(&mut line, option, text)?;
     let _ = eprint!(rt; "{line}");

@@ -1,7 +1,9 @@
 //! Frames of an input that is read in pieces.
 
+ghost use Rattle.std.specs.Prelude.{◌≡◌, take};
+
 use crate::clocks::zero_said;
-use crate::input::{open, unread};
+use crate::input::open;
 use crate::tasks::Call;
 use dial9_trace_format::decoder::{DecodedFrame, FeedDecoder};
 use gotymbe_plan::ending::{Ending, lacks_cause};
@@ -131,7 +133,7 @@ impl FrameSink for Tally<'_> {
         };
         match self.stats.add_owned(&event, bytes) {
             Ok(()) => self.picked.go_on(),
-            Err(_) => Err(Ending::OutOfMemory),
+            Err(error) => Err(Ending::from(error)),
         }
     }
 
@@ -166,7 +168,7 @@ pub(crate) fn read_named<S: FrameSink>(
             input.finish();
             ending
         }
-        Err(error) => unread(error.kind()),
+        Err(error) => Ending::of_unread(error.kind()),
     };
     placed(rt, call, name, ending)
 }
@@ -215,7 +217,7 @@ pub(crate) fn placed(
                 }),
             }
         }
-        Err(error) => unread(error.kind()),
+        Err(error) => Ending::of_unread(error.kind()),
     }
 }
 
@@ -253,7 +255,7 @@ pub(crate) fn feed<R: Read, S: FrameSink>(
             }
             Err(error) => {
                 if error.kind() != ErrorKind::Interrupted {
-                    return unread(error.kind());
+                    return Ending::of_unread(error.kind());
                 }
             }
         }
@@ -262,7 +264,9 @@ pub(crate) fn feed<R: Read, S: FrameSink>(
 }
 
 // At most so many bytes of a piece.
-fn front_of(piece: &[u8], most: u64) -> &[u8] {
+fn front_of(piece: &[u8], most: u64) -> &[u8]
+    ensures { result.now ≡ take most piece.now }
+{
     match usize::try_from(most) {
         Ok(most) => piece.get(..most).unwrap_or(piece),
         Err(_) => piece,

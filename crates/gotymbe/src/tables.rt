@@ -5,6 +5,7 @@ use crate::pieces::{FrameSink, Picked};
 use csv::{ByteRecord, Writer};
 use dial9_trace_format::decoder::{DecodedFrame, FeedDecoder};
 use gotymbe_plan::ending::Ending;
+use gotymbe_plan::tables::{Due, rows_due};
 use std::alloc::{AllocError, Global};
 use std::fs::File;
 use std::mem;
@@ -17,11 +18,6 @@ use trace_csv::tables::push_table;
 use trace_events::event::OwnedEvent;
 use trace_events::schema::is_same_schema;
 use trace_wire::schema::SchemaEntry;
-
-// The rows of a table are written once they have so many bytes, and those of all tables once these have so many.
-const ENOUGH: u64 = 65_536;
-
-const TOO_MUCH: u64 = 8_388_608;
 
 // How many places of tables are looked at first, by wire id.
 const GUESSES: usize = 256;
@@ -133,13 +129,11 @@ impl<'c, 'r, R: AllocGlobal + Files<File = File>> Tables<'c, 'r, R> {
         table.rows = table.rows.saturating_add(1);
         table.held = table.held.saturating_add(bytes);
         self.held = self.held.saturating_add(bytes);
-        if table.held >= ENOUGH {
-            return self.write_rows(place);
+        match rows_due(table.held, self.held) {
+            Due::Nothing => Ok(()),
+            Due::Table => self.write_rows(place),
+            Due::All => self.write_all_rows(),
         }
-        if self.held >= TOO_MUCH {
-            return self.write_all_rows();
-        }
-        Ok(())
     }
 
     // Writes the rows of all tables.

@@ -1,5 +1,9 @@
 //! What is done, task by task.
 
+ghost use Rattle.std.specs.Prelude.{◌≡◌, ◌↔◌, IfOk, IsTrue};
+ghost use Rattle.gotymbe_plan.specs.Endings.{HasStatus};
+ghost use Rattle.gotymbe_plan.specs.Moments.{IsAnyDate};
+
 use crate::input::read_all;
 use crate::merge::merge_all;
 use crate::output::{Noted, STANDARD, Written, begin};
@@ -33,7 +37,11 @@ pub(crate) struct Call<'a> {
 
 impl Call<'_> {
     /// Which events are asked for.
-    pub(crate) fn wanted(&self) -> Wanted<'_> {
+    pub(crate) fn wanted(&self) -> Wanted<'_>
+        ensures from { result.from ≡ self.now.from }
+        ensures to { result.to ≡ self.now.to }
+        ensures names { result.names.now ≡ self.now.asked.events.items }
+    {
         Wanted {
             from: self.from,
             to: self.to,
@@ -42,7 +50,9 @@ impl Call<'_> {
     }
 
     /// Whether a date is asked for.
-    pub(crate) fn has_dates(&self) -> bool {
+    pub(crate) fn has_dates(&self) -> bool
+        ensures { IsTrue result ↔ IsAnyDate self.now.from self.now.to }
+    {
         is_any_date(self.from, self.to)
     }
 }
@@ -65,7 +75,9 @@ pub(crate) fn tell(
     rt: &(impl AllocGlobal + Eprint),
     name: &str,
     ending: Ending,
-) -> Result<u8, AllocError> {
+) -> Result<u8, AllocError>
+    ensures { IfOk result (HasStatus ending) }
+{
     let mut line = String::new(rt.alloc());
     push_message(&mut line, name, ending)?;
     let _ = eprint!(rt; "{line}");

@@ -1,5 +1,8 @@
 //! Adding up the stacks of events.
 
+ghost use Rattle.std.specs.Prelude.{◌≡◌};
+ghost use Rattle.gotymbe.specs.Failures.{fold_ending};
+
 use crate::clocks::zero_of;
 use crate::output::Noted;
 use crate::pieces::{FrameSink, Picked, read_named};
@@ -37,8 +40,7 @@ impl FrameSink for Folding<'_> {
         };
         match self.stacks.add_event(&event, self.field) {
             Ok(()) => self.picked.go_on(),
-            Err(FoldError::OutOfMemory) => Err(Ending::OutOfMemory),
-            Err(FoldError::Full) => Err(Ending::TooMuch),
+            Err(error) => Err(uncounted(error)),
         }
     }
 
@@ -48,6 +50,16 @@ impl FrameSink for Folding<'_> {
 
     fn end(&mut self, _: Ending, _: usize) -> Result<(), Ending> {
         Ok(())
+    }
+}
+
+// The ending where a stack was not counted.
+fn uncounted(error: FoldError) -> Ending
+    ensures { result ≡ fold_ending error }
+{
+    match error {
+        FoldError::OutOfMemory => Ending::OutOfMemory,
+        FoldError::Full => Ending::TooMuch,
     }
 }
 

@@ -1,5 +1,8 @@
 //! Writing a page that shows traces.
 
+ghost use Rattle.std.specs.Prelude.{◌≡◌};
+ghost use Rattle.gotymbe.specs.Failures.{page_ending};
+
 use crate::clocks::{zero_of, zero_said};
 use crate::output::Noted;
 use crate::pieces::{FrameSink, Picked, read_named};
@@ -93,7 +96,16 @@ pub(crate) fn write_page<W: TraceWrite + Drop>(
     let data = gathered.data.finish(title, said(&ends))?;
     match send_page(rt.alloc(), out, HEAD, &data, TAIL) {
         Ok(()) => settle(rt, written, out, status),
-        Err(PageError::Writer(kind)) => tell(rt, written, Ending::Unwritten(kind)),
-        Err(PageError::OutOfMemory) => tell(rt, written, Ending::OutOfMemory),
+        Err(error) => tell(rt, written, unsent(error)),
+    }
+}
+
+// The ending where a page was not sent.
+fn unsent(error: PageError) -> Ending
+    ensures { result ≡ page_ending error }
+{
+    match error {
+        PageError::OutOfMemory => Ending::OutOfMemory,
+        PageError::Writer(kind) => Ending::Unwritten(kind),
     }
 }

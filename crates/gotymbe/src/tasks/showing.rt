@@ -1,15 +1,14 @@
 //! Showing what traces hold: checking, dumping, counting, and lines of JSON.
 
 use crate::clocks::zero_of;
-use crate::events::{EventLines, Form};
-use crate::input::{open, unread};
+use crate::events::{EventLines, Lines};
+use crate::input::open;
 use crate::output::{Noted, STANDARD};
 use crate::pieces::{Picked, Tally, ending_by, ending_of, placed, read_named};
 use crate::tasks::{Call, settle, tell};
 use dial9_trace_format::decoder::FeedDecoder;
 use gotymbe_plan::ending::{Ending, dump_ending, push_whole};
 use gotymbe_plan::statistics::push_stats;
-use gotymbe_words::asked::Task;
 use std::alloc::AllocError;
 use std::fs::File;
 use std::io;
@@ -75,33 +74,15 @@ pub(crate) fn show_one<W: TraceWrite + Drop>(
     name: &str,
     out: &mut Noted<W>,
 ) -> Ending {
-    let Some(form) = form_of(call) else {
+    let Some(form) = call.asked.form() else {
         return dump_frames(rt, call, name, out);
     };
     let mut lines = EventLines {
-        alloc: rt.alloc(),
-        form,
         picked: Picked::of(call, zero_of(rt, call, name)),
-        line: String::new(rt.alloc()),
-        json: Vec::new(rt.alloc()),
-        held: Vec::new(rt.alloc()),
+        lines: Lines::new(rt.alloc(), form),
         out,
     };
     read_named(rt, call, name, &mut lines)
-}
-
-// The form of the lines, where they are those of events.
-fn form_of(call: &Call<'_>) -> Option<Form> {
-    if call.asked.task == Task::Json {
-        return Some(Form::Json);
-    }
-    if call.asked.selects() {
-        return Some(Form::Resolved);
-    }
-    if call.asked.resolve {
-        return Some(Form::Dump);
-    }
-    None
 }
 
 // Writes the dump of a file's frames, as it is read.
@@ -113,7 +94,7 @@ fn dump_frames<W: TraceWrite + Drop>(
 ) -> Ending {
     let mut input = match open(rt, call, name) {
         Ok(input) => input,
-        Err(error) => return unread(error.kind()),
+        Err(error) => return Ending::of_unread(error.kind()),
     };
     let mut decoder = FeedDecoder::new(rt.alloc());
     let status = dump_fed(rt.alloc(), &mut decoder, &mut input, out);
