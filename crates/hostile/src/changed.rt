@@ -2,9 +2,7 @@
 
 pub mod beside;
 pub mod fed;
-pub mod frames;
 pub mod program;
 pub mod reading;
 pub mod resolving;
 pub mod tally;
-pub mod values;

@@ -10,7 +10,6 @@ mod calls;
 mod changed;
 mod program;
 mod refused;
-mod same;
 
 use std::process::ExitCode;
 

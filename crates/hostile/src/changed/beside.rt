@@ -1,14 +1,14 @@
 //! A sink beside a reader of borrowed values.
 
 use crate::calls::{decoder_of, next_borrowed, place_of, show};
-use crate::changed::reading::{Ended, unless_memory};
+use crate::changed::reading::unless_memory;
 use crate::changed::resolving::is_resolved;
-use crate::refused::runs::is_shown;
-use crate::same::{is_same, same_stacks, same_texts};
 use dial9_trace_format::decoder::{
-    DecodeError, DecodeErrorKind, DecodedFrameRef, Decoder, EventSink, RawEvent, TryForEachError,
+    DecodeError, DecodedFrameRef, Decoder, EventSink, RawEvent, TryForEachError,
 };
-use dial9_trace_format::schema::SchemaEntry;
+use reader_agreement::causes::is_told_for;
+use reader_agreement::ends::Ended;
+use reader_agreement::events::{is_described, is_shown};
 use std::alloc::{AllocError, Global};
 
 /// Compares each event that it is shown with the next one that a reader beside it gives.
@@ -59,7 +59,9 @@ fn is_next<'a>(
     if !is_shown(next_event(reader).as_ref(), event) {
         return Ok(false);
     }
-    Ok(is_described(reader, event) & is_resolved(alloc, reader, event)?)
+    let (texts, stacks) = (reader.string_pool(), reader.stack_pool());
+    let described = is_described(reader.registry(), texts, stacks, event);
+    Ok(described & is_resolved(alloc, reader, event)?)
 }
 
 /// The next frame that is an event.
@@ -86,27 +88,6 @@ fn next_event<'a>(reader: &mut Decoder<'a>) -> Option<DecodedFrameRef<'a>> {
         }
     }
     None
-}
-
-/// Whether the event comes with the schema and the pools of the reader.
-fn is_described(reader: &Decoder<'_>, event: &RawEvent<'_, '_>) -> bool {
-    let texts = same_texts(event.string_pool, reader.string_pool());
-    let stacks = same_stacks(event.stack_pool, reader.stack_pool());
-    match reader.registry().get(event.type_id) {
-        Some(entry) => texts & stacks & has_entry(event, entry),
-        None => false,
-    }
-}
-
-/// Whether the event comes with this entry, its name, and the names of its fields.
-fn has_entry(event: &RawEvent<'_, '_>, entry: &SchemaEntry) -> bool {
-    let mut names = event.field_names();
-    for field in entry.fields() {
-        if names.next() != Some(field.name()) {
-            return false;
-        }
-    }
-    names.next().is_none() && *event.schema == *entry && event.name == entry.name()
 }
 
 /// What a sink or its reader answered.
@@ -186,7 +167,7 @@ impl<'b> Wanted<'b> {
         };
         let shown = sink.right && sink.events == self.events;
         let place = place_of(decoder) == self.ended.place;
-        Ok(shown && place && is_cause(self.bytes, told, &self.ended))
+        Ok(shown && place && is_told_for(self.bytes, told, &self.ended))
     }
 }
 
@@ -199,42 +180,4 @@ fn sink_of(alloc: Global, bytes: &[u8], refuses: bool) -> Result<Beside<'_>, All
         events: 0,
         right: true,
     })
-}
-
-/// Whether this is told to a sink where a reader of frames ends so: its error; or nothing at the end of the bytes; or
-/// the first cause why no frame stands there.
-fn is_cause(bytes: &[u8], told: Option<DecodeError>, ended: &Ended) -> bool {
-    match (told, &ended.error) {
-        (Some(told), Some(error)) => is_same(&told, error),
-        (None, None) => ended.place == bytes.len(),
-        (Some(told), None) => match bytes.get(ended.place) {
-            Some(first) => is_cause_at(bytes, *first, told, ended.place),
-            None => false,
-        },
-        (None, Some(_)) => false,
-    }
-}
-
-/// Whether this may be the cause why no frame stands at this place, which has this byte.
-fn is_cause_at(bytes: &[u8], first: u8, told: DecodeError, place: usize) -> bool {
-    let inside = place <= told.pos && told.pos <= bytes.len();
-    match first {
-        2 => inside && is_of_event(told.kind),
-        5 => inside && told.kind == DecodeErrorKind::TruncatedReset,
-        _ => told.pos == place && told.kind == DecodeErrorKind::NoFrame(first),
-    }
-}
-
-/// Whether an event may not stand for this cause.
-fn is_of_event(kind: DecodeErrorKind) -> bool {
-    matches!(
-        kind,
-        DecodeErrorKind::TruncatedEvent
-            | DecodeErrorKind::UnknownTypeId(_)
-            | DecodeErrorKind::TruncatedDelta
-            | DecodeErrorKind::TimestampOverflow
-            | DecodeErrorKind::TruncatedPrefix
-            | DecodeErrorKind::TruncatedOptional
-            | DecodeErrorKind::TruncatedValue
-    )
 }

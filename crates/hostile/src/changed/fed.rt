@@ -1,11 +1,11 @@
 //! A trace that is fed in two pieces.
 
 use crate::calls::feed;
-use crate::changed::reading::{Ended, unless_memory};
+use crate::changed::reading::unless_memory;
 use crate::refused::feeding::{Feeding, Form};
 use crate::refused::runs::Reference;
-use crate::same::is_same;
 use dial9_trace_format::decoder::{DecodeErrorKind, FeedDecoder};
+use reader_agreement::ends::{Ended, is_same_error};
 use std::alloc::{AllocError, Global};
 
 /// Whether a decoder that is fed the trace in two pieces cut at this place gives its frames, and ends as they do.
@@ -26,7 +26,7 @@ pub fn gives_fed(alloc: Global, reference: &Reference<'_>, place: usize) -> bool
 fn is_ended(decoder: &FeedDecoder, ended: &Ended) -> bool {
     let faults = match (decoder.fault(), &ended.error) {
         (None, None) => true,
-        (Some(fault), Some(error)) => is_same(fault, error),
+        (Some(fault), Some(error)) => is_same_error(fault, error),
         _ => false,
     };
     faults & (decoder.position() == ended.place)

@@ -3,12 +3,13 @@
 use crate::calls::{decoder_of, place_of, step};
 use crate::changed::beside::Wanted;
 use crate::changed::fed::{gives_fed, gives_none};
-use crate::changed::frames::agree;
-use crate::changed::reading::{Ended, events_of};
+use crate::changed::reading::events_of;
 use crate::changed::tally::{End, Shown, Tally};
 use crate::refused::runs::{Reader, Reference, Run, reference_of};
 use dial9_trace_format::decoder::{DecodeError, Decoder};
 use md5::{Digest, Md5};
+use reader_agreement::ends::Ended;
+use reader_agreement::frames::agree;
 use std::alloc::{AllocError, Global};
 use std::env;
 use std::rt::Env;

@@ -3,10 +3,10 @@
 use crate::calls::{all_owned, place_of};
 use crate::refused::plan::{HEADER, new_encoder};
 use crate::refused::runs::Reference;
-use crate::same::{same_schemas, same_stacks, same_texts};
 use dial9_trace_format::decoder::{DecodeError, DecodedFrame, Decoder, StackPool, StringPool};
 use dial9_trace_format::encoder::Encoder;
 use dial9_trace_format::schema::SchemaRegistry;
+use reader_agreement::tables::{same_schemas, same_stacks, same_texts};
 use std::alloc::{AllocError, Global};
 
 /// The tables of a decoder.

@@ -7,8 +7,8 @@ use crate::refused::reading::is_told;
 use crate::refused::runs::{Reference, Run};
 use crate::refused::sweep::Trial;
 use crate::refused::verdict::Seen;
-use crate::same::is_same;
 use dial9_trace_format::decoder::{DecodeError, DecodedFrame, FeedDecoder};
+use reader_agreement::ends::is_same_error;
 use std::alloc::Global;
 
 /// By which calls it is fed.
@@ -146,7 +146,7 @@ fn stays_failed(decoder: &mut FeedDecoder, error: &DecodeError) -> bool {
 
 fn has_fault(fault: Option<&DecodeError>, error: &DecodeError) -> bool {
     match fault {
-        Some(fault) => is_same(fault, error),
+        Some(fault) => is_same_error(fault, error),
         None => false,
     }
 }

@@ -5,7 +5,6 @@ use crate::refused::heap::{refuse, was_refused};
 use crate::refused::plan::{HEADER, new_encoder};
 use crate::refused::sweep::{LACKING, Making, Trial, is_equal, sweep, sweep_made};
 use crate::refused::verdict::{Answer, Counts, Seen, Verdict};
-use crate::same::same_schemas;
 use dial9_trace_format::TraceEvent;
 use dial9_trace_format::codec::{Layout, WireTypeId, compile};
 use dial9_trace_format::encoder::{Encoder, Schema};
@@ -13,6 +12,7 @@ use dial9_trace_format::leb128::EncodeError;
 use dial9_trace_format::schema::{
     FieldAnnotation, FieldDef, RegisterError, SchemaEntry, SchemaRegistry,
 };
+use reader_agreement::tables::same_schemas;
 use std::alloc::{AllocError, Global};
 use std::hash::RandomState;
 use std::io::ErrorKind;

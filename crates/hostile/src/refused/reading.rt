@@ -9,10 +9,10 @@ use crate::refused::heap::{refuse, was_refused};
 use crate::refused::runs::{Reader, Reference, Run};
 use crate::refused::sweep::{LACKING, Trial};
 use crate::refused::verdict::Seen;
-use crate::same::is_same;
 use dial9_trace_format::decoder::{DecodeError, Decoder, TryForEachError};
 use dial9_trace_format::leb128::EncodeError;
 use dial9_trace_format::types::{FieldValue, FieldValueRef};
+use reader_agreement::ends::is_same_error;
 use std::alloc::Global;
 
 /// A trace that a reader reads.
@@ -124,7 +124,7 @@ fn makes_no_encoder(alloc: Global, decoder: Decoder<'_>) -> bool {
 /// Whether an answer is this error.
 pub fn is_told<T: Drop>(answer: Result<T, DecodeError>, error: &DecodeError) -> bool {
     match answer {
-        Err(told) => is_same(&told, error),
+        Err(told) => is_same_error(&told, error),
         Ok(_) => false,
     }
 }
@@ -138,7 +138,7 @@ fn stays_failed(decoder: &mut Decoder<'_>, error: &DecodeError) -> bool {
 
 fn is_told_to_sink(answer: Result<(), TryForEachError<()>>, error: &DecodeError) -> bool {
     match answer {
-        Err(TryForEachError::Decode(told)) => is_same(&told, error),
+        Err(TryForEachError::Decode(told)) => is_same_error(&told, error),
         _ => false,
     }
 }

@@ -4,14 +4,16 @@ use crate::calls::{
     all_borrowed, all_owned, decoder_of, next_borrowed, next_into, next_owned, next_ref_into, show,
     step, step_events, visit,
 };
-use crate::changed::reading::{Borrowed, Owned, read_borrowed, read_owned};
+use crate::changed::reading::{read_borrowed, read_owned};
 use crate::refused::verdict::Answer;
-use crate::same::{are_same, is_same_end};
 use dial9_trace_format::decoder::{
-    DecodeError, DecodeErrorKind, DecodedFrame, DecodedFrameRef, Decoder, EventHead, EventSink,
-    EventVisitor, RawEvent, TryForEachError,
+    DecodeError, DecodeErrorKind, DecodedFrame, DecodedFrameRef, Decoder, EventSink, EventVisitor,
+    RawEvent, TryForEachError,
 };
 use dial9_trace_format::types::{FieldValue, FieldValueRef};
+use reader_agreement::ends::is_same_end;
+use reader_agreement::events::{is_event, is_event_ref, is_shown};
+use reader_agreement::frames::{Borrowed, Owned};
 use std::alloc::{AllocError, Global};
 
 /// A reader of a whole trace.
@@ -177,18 +179,6 @@ impl<'r, 'b> Comparing<'r, 'b> {
     }
 }
 
-/// Whether the frame is the event that a sink is shown.
-pub fn is_shown<'v, 'b>(
-    frame: Option<&'v DecodedFrameRef<'b>>,
-    event: &'v RawEvent<'b, '_>,
-) -> bool {
-    let head = EventHead {
-        type_id: event.type_id,
-        timestamp_ns: event.timestamp_ns,
-    };
-    is_event_ref(frame, head, event.fields)
-}
-
 impl<'r, 'b> EventSink<'b, ()> for Comparing<'r, 'b> {
     ghost step = { λ _ _ _ _. Unit {0} };
 
@@ -203,44 +193,6 @@ impl<'r, 'b> EventVisitor<'b> for Comparing<'r, 'b> {
 
     fn event(&mut self, event: &RawEvent<'b, '_>) {
         self.take(event);
-    }
-}
-
-/// Whether the frame is the event of this head and these values.
-fn is_event(frame: Option<&DecodedFrame>, head: EventHead, values: &[FieldValue]) -> bool {
-    match frame {
-        Some(
-            DecodedFrame::Event {
-                type_id,
-                timestamp_ns,
-                values: wanted,
-            },
-        ) => {
-            let same = (head.type_id == *type_id) & (head.timestamp_ns == *timestamp_ns);
-            same & (values == wanted.as_slice())
-        }
-        _ => false,
-    }
-}
-
-/// The same of values that stay in the bytes.
-fn is_event_ref<'v, 'b>(
-    frame: Option<&'v DecodedFrameRef<'b>>,
-    head: EventHead,
-    values: &'v [FieldValueRef<'b>],
-) -> bool {
-    match frame {
-        Some(
-            DecodedFrameRef::Event {
-                type_id,
-                timestamp_ns,
-                values: wanted,
-            },
-        ) => {
-            let same = (head.type_id == *type_id) & (head.timestamp_ns == *timestamp_ns);
-            same & are_same(values, wanted)
-        }
-        _ => false,
     }
 }
 

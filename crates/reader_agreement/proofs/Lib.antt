@@ -1,0 +1,5 @@
+pub mod Apart
+pub mod BesideLemmas
+pub mod PairsLeft
+pub mod SignLemmas
+pub mod TwoLists

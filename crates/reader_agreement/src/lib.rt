@@ -1,0 +1,10 @@
+//! Whether readers of one trace agree: each comparison answers `true` exactly where what it compares is the same.
+#![tactic(auto)]
+
+pub mod causes;
+pub mod ends;
+pub mod events;
+pub mod frames;
+pub mod signs;
+pub mod tables;
+pub mod values;
