@@ -344,9 +344,10 @@ whole_depth name from ps fs h = omega (arith, entries_depth from ps h, frames_de
 
 spelled_all : (xs : List TakenEvent) → All IsOfRun (events xs) → AllByRecursion (λ x. IsSpelled x.event) xs
 spelled_all [] h = tt
-spelled_all (x ∷ xs) h =
-    (event_spelled x.event (All-head IsOfRun x.event (events xs) h),
-    spelled_all xs (All-tail IsOfRun x.event (events xs) h))
+spelled_all (x ∷ xs) h = (
+  event_spelled x.event (All-head IsOfRun x.event (events xs) h),
+  spelled_all xs (All-tail IsOfRun x.event (events xs) h),
+)
 
 times_all : (xs : List TakenEvent) → AllByRecursion (λ x. IsSpelled x.event) xs →
     AllByRecursion (λ e. IsSmall e.time) (events xs)
