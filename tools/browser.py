@@ -110,6 +110,11 @@ class Browser:
         return tab
 
 
+def held_keys(shift, control):
+    """The number that stands for the keys that are held."""
+    return (8 if shift else 0) + (2 if control else 0)
+
+
 class Tab:
     """A tab, and what it did that a test wants to know."""
 
@@ -168,10 +173,11 @@ class Tab:
         """Waits until what was to be drawn is drawn."""
         self.value("new Promise((done) => requestAnimationFrame(() => requestAnimationFrame(() => done(1))))")
 
-    def press(self, key, shift=False):
+    def press(self, key, shift=False, control=False):
         text, code = KEYS.get(key, (key, ord(key[0].upper())))
-        stroke = {"key": key, "windowsVirtualKeyCode": code, "modifiers": 8 if shift else 0}
-        self.send("Input.dispatchKeyEvent", type="keyDown", **stroke, **({"text": text} if text else {}))
+        stroke = {"key": key, "windowsVirtualKeyCode": code, "modifiers": held_keys(shift, control)}
+        text = {"text": text} if text and not control else {}
+        self.send("Input.dispatchKeyEvent", type="keyDown", **stroke, **text)
         self.send("Input.dispatchKeyEvent", type="keyUp", **stroke)
 
     def type(self, text):
@@ -179,7 +185,7 @@ class Tab:
             self.press(letter)
 
     def mouse(self, kind, x, y, shift=False, control=False, **more):
-        held = (8 if shift else 0) + (2 if control else 0)
+        held = held_keys(shift, control)
         self.send("Input.dispatchMouseEvent", type=kind, x=x, y=y, modifiers=held, **more)
 
     def click(self, x, y, count=1):

@@ -186,12 +186,15 @@ function findTracks() {
     else found.push(find("name", schema.group ?? schema.name, () => schema.group ?? schema.name));
   }
   const order = (a, b) =>
-    a.sort - b.sort || (a.sort === 0 ? numberOf(a.key) - numberOf(b.key) : 0) || (a.sort === 1 ? textOrder(a, b) : 0);
+    a.sort - b.sort || (a.sort === 0 ? sizeOrder(a.key, b.key) : 0) || (a.sort === 1 ? textOrder(a, b) : 0);
   trace.tracks = [...tracks.values()].sort((a, b) => order(a, b) || a.at - b.at);
   trace.tracks.forEach((track, at) => { track.at = at; });
   trace.trackOf = new Uint32Array(trace.count);
   for (let event = 0; event < trace.count; event++) trace.trackOf[event] = found[event].at;
 }
+
+// (doubles do not tell all numbers apart)
+const sizeOrder = (a, b) => numberOf(a) - numberOf(b) || Number(BigInt(a) - BigInt(b));
 
 // (numbers in texts stand by their size)
 const textOrder = (a, b) => (a.order < b.order ? -1 : a.order > b.order ? 1 : 0);

@@ -55,7 +55,145 @@ static void poll(trace_batch *b) {
     trace_pooled_stack(b, 9);
 }
 
+/* Each type, and its optional form, present and absent: the values of one event. */
+static void each_value(trace_batch *b, uint8_t type) {
+    uint64_t addresses[2] = {1, 2};
+    switch (type) {
+    case TRACE_I64: trace_integer(b, -1); return;
+    case TRACE_F64: trace_float(b, 0.5); return;
+    case TRACE_BOOL: trace_boolean(b, true); return;
+    case TRACE_STRING: trace_string(b, "text", 4); return;
+    case TRACE_BYTES: trace_bytes(b, "bytes", 5); return;
+    case TRACE_POOLED_STACK: trace_pooled_stack(b, 9); return;
+    case TRACE_POOLED_STRING: trace_pooled_text(b, 8); return;
+    case TRACE_STACK: trace_addresses(b, addresses, 2); return;
+    case TRACE_STRING_MAP:
+        trace_string_map(b, 1);
+        trace_part(b, "key", 3);
+        trace_part(b, "value", 5);
+        return;
+    case TRACE_LIST:
+        trace_list(b, 3);
+        trace_number(b, 300);
+        trace_list(b, 0);
+        trace_boolean(b, false);
+        return;
+    case TRACE_MAP:
+        trace_map(b, 1);
+        trace_string(b, "key", 3);
+        trace_integer(b, 1);
+        return;
+    default: trace_number(b, 200); return;
+    }
+}
+
+static const char *const EACH =
+    " \"f\"=I64:-1 \"f\"=F64:0x3fe0000000000000 \"f\"=Bool:true \"f\"=String:\"text\" \"f\"=Bytes:\"bytes\""
+    " \"f\"=StackFrames:[0x1,0x2] \"f\"=String:\"site\" \"f\"=StackFrames:[0x1,0x2] \"f\"=Varint:200"
+    " \"f\"=StringMap:{\"key\"=\"value\"} \"f\"=Varint:200 \"f\"=Varint:200 \"f\"=Varint:200"
+    " \"f\"=List:[Varint:300,List:[],Bool:false] \"f\"=Map:{String:\"key\"=I64:1}";
+
+/* They are dumped as they were written. What is read of them is stepped over value by value: each begins with the tag
+   of its field, and the last ends where the record does. */
+static void each_type(void) {
+    uint8_t room[4000], trace[4000], out[4000];
+    uint64_t addresses[2] = {1, 2};
+    char lines[4000] = "trace version 1\nevent \"All\" timestamp_ns=7";
+    trace_report report;
+    trace_batch b = {room, sizeof room, 0};
+    trace_schema(&b, 1, "All", 45);
+    for (uint8_t k = 0; k < 45; k++)
+        trace_field(&b, "f", (uint8_t)(k % 15 + 1) | (k < 15 ? 0 : TRACE_OPTIONAL));
+    trace_annotations(&b, 0);
+    trace_text(&b, 8, "site", 4);
+    trace_stack(&b, 9, addresses, 2);
+    trace_event(&b, 1, 7, 45);
+    for (uint8_t k = 0; k < 45; k++) {
+        if (k < 30)
+            each_value(&b, k % 15 + 1);
+        else
+            trace_absent(&b);
+    }
+    expect(trace_record(b.bytes, b.length, trace, sizeof trace, &report) == TRACE_DONE, "each type is recorded");
+    size_t length = report.length;
+    strcat(strcat(lines, EACH), EACH);
+    for (int k = 0; k < 15; k++)
+        strcat(lines, " \"f\"=None");
+    strcat(lines, "\nend whole\n");
+    expect(trace_dump(trace, length, true, out, sizeof out, &report) == TRACE_DONE, "each type is dumped");
+    expect(report.length == strlen(lines) && !memcmp(out, lines, report.length), "the values of each type");
+    expect(trace_read(out, 0, trace, length, 9, out, sizeof out, &report) == TRACE_DONE, "each type is read");
+    trace_cursor c = {out, report.length, 0};
+    expect(*trace_take(&c, 1) == 1 && trace_take_number(&c, 2) > 0 && trace_take_name(&c).count == 3, "the schema");
+    trace_skip_fields(&c);
+    expect(*trace_take(&c, 1) == 3 && trace_take_number(&c, 4) == 8 && trace_take_counted(&c).count == 4, "the text");
+    expect(*trace_take(&c, 1) == 4 && trace_take_number(&c, 4) == 9, "the stack");
+    trace_slice stack = trace_take_addresses(&c);
+    expect(stack.count == 2 && trace_number_at(stack.bytes + 8, 8) == 2, "its addresses");
+    expect(*trace_take(&c, 1) == 2 && trace_take_number(&c, 2) > 0 && trace_take_number(&c, 8) == 7, "the event");
+    expect(trace_take_number(&c, 2) == 45, "as many values");
+    for (uint8_t k = 0; k < 45 && c.at < c.length; k++) {
+        uint8_t tag = *trace_take(&c, 1);
+        expect(tag == ((k % 15 + 1) | (k < 15 ? 0 : TRACE_OPTIONAL)), "the tag of a field");
+        trace_skip_value(&c, tag, true);
+    }
+    expect(c.at == c.length, "the last value ends where the record does");
+}
+
+/* Names that one byte does not count, and an annotation without a key: dumped, read and stepped over. */
+static void long_names(void) {
+    uint8_t room[4000], trace[4000], out[4000];
+    char name[301] = {0}, line[4000];
+    trace_report report;
+    memset(name, 'n', 300);
+    trace_batch b = {room, sizeof room, 0};
+    trace_schema(&b, 1, name, 1);
+    trace_field(&b, name, TRACE_BOOL);
+    trace_annotations(&b, 2);
+    trace_annotation(&b, 0, "", name);
+    trace_annotation(&b, 65535, name, "");
+    trace_event(&b, 1, 5, 1);
+    trace_boolean(&b, true);
+    expect(trace_record(b.bytes, b.length, trace, sizeof trace, &report) == TRACE_DONE, "long names are recorded");
+    size_t length = report.length;
+    snprintf(line, sizeof line, "trace version 1\nevent \"%s\" timestamp_ns=5 \"%s\"=Bool:true\nend whole\n",
+             name, name);
+    expect(trace_dump(trace, length, true, out, sizeof out, &report) == TRACE_DONE, "long names are dumped");
+    expect(report.length == strlen(line) && !memcmp(out, line, report.length), "the line of long names");
+    expect(trace_read(out, 0, trace, length, 9, out, sizeof out, &report) == TRACE_DONE, "long names are read");
+    trace_cursor c = {out, report.length, 0};
+    /* the schema without its annotations, and then with them, as they were written */
+    for (int k = 0; k < 2; k++) {
+        expect(*trace_take(&c, 1) == 1 && trace_take_number(&c, 2) > 0 && trace_take_name(&c).count == 300, "a schema");
+        size_t begin = c.at;
+        trace_skip_fields(&c);
+        size_t fields = 2 + 2 + 300 + 1 + 2;
+        expect(c.at - begin == fields + (k == 0 ? 0 : 2 * (2 + 2 + 4) + 600), "its fields and annotations");
+        expect(k == 0 || !memcmp(out + begin + fields - 2, room + 3 + 302 + fields - 2, c.at - begin - fields + 2),
+               "the annotations that were written");
+    }
+    expect(*trace_take(&c, 1) == 2, "the event");
+}
+
+/* A batch that has too little room tells what it needs, and no byte after the room is touched. */
+static void too_little_room(void) {
+    uint8_t room[1000];
+    trace_batch whole = {room, sizeof room, 0};
+    poll(&whole);
+    for (size_t size = 0; size < whole.length; size++) {
+        memset(room, 0xa5, sizeof room);
+        trace_batch b = {room, size, 0};
+        poll(&b);
+        expect(b.length == whole.length, "what is needed");
+        for (size_t k = size; k < sizeof room; k++)
+            expect(room[k] == 0xa5, "a byte after the room");
+    }
+}
+
 int main(void) {
+    each_type();
+    long_names();
+    too_little_room();
     uint8_t room[1000], trace[1000], lines[2000];
     trace_report report;
     trace_batch batch = {room, sizeof room, 0};

@@ -97,8 +97,13 @@ def _name(text):
     return _number(len(raw), 2) + raw
 
 
-def _counted(raw):
-    raw = raw.encode() if isinstance(raw, str) else bytes(raw)
+def _raw(value):
+    """The bytes of a text, or of what is bytes. (`bytes` would make as many zeros of a number.)"""
+    return value.encode() if isinstance(value, str) else bytes(memoryview(value))
+
+
+def _counted(value):
+    raw = _raw(value)
     return _number(len(raw), 4) + raw
 
 
@@ -170,10 +175,10 @@ class Batch:
         if value is None:
             return bytes([OPTIONAL | I64, 0])
         plain = kind & 0x7F
-        if plain == POOLED_STRING and not isinstance(value, int):
-            raw = value.encode() if isinstance(value, str) else bytes(value)
+        if plain == POOLED_STRING:
+            raw = _raw(value)
             return bytes([POOLED_STRING]) + _number(self._pooled(self._texts, 3, raw, _counted(raw)), 4)
-        if plain == POOLED_STACK and not isinstance(value, int):
+        if plain == POOLED_STACK:
             return bytes([POOLED_STACK]) + _number(self._pooled(self._stacks, 4, tuple(value), _addresses(value)), 4)
         return spelled(plain, value)
 

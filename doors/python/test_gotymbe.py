@@ -173,8 +173,8 @@ class Doors(unittest.TestCase):
         [event] = gotymbe.read(trace)
         read_back = {STRING_MAP: [(b"k", b"v")], LIST: [1, "x"], MAP: [(False, [])]}
         self.assertEqual((event.name, event.time), ("All", 5))
-        self.assertEqual(list(event.values.values()),
-                         [None if value is None else read_back.get(kind & 0x7F, value) for kind, value, _ in kinds])
+        wanted = [None if value is None else read_back.get(kind & 0x7F, value) for kind, value, _ in kinds]
+        self.assertEqual((event.row, event.values), (wanted, {f"f{at}": value for at, value in enumerate(wanted)}))
         shown = " ".join(f'"f{at}"={line}' for at, (_, _, line) in enumerate(kinds))
         self.assertEqual(dump(trace, True), f'trace version 1\nevent "All" timestamp_ns=5 {shown}\nend whole\n')
 
@@ -285,6 +285,52 @@ class Doors(unittest.TestCase):
             self.assertEqual((it.exception.code, it.exception.place), (32, place))
         two = record_batch(bare.record(1) + Schema("B", [("n", VARINT)]).record(1) + event)
         self.assertEqual([it.name for it in gotymbe.read(two)], ["B"])
+
+    def test_pools_of_batches(self):
+        """Texts and stacks of one length are told apart, and told again in the next batch."""
+        schema = Schema("S", [("at", POOLED_STRING), ("stack", POOLED_STACK)])
+        rows = [("ab", (1, 2)), ("cd", (3, 4)), ("ab", (3, 4)), ("cd", (1, 2)), ("", ())]
+        batch, traces = Batch(), b""
+        for _ in range(2):
+            for time, row in enumerate(rows):
+                batch.add(schema, time, row)
+            traces += record_batch(batch.bytes())
+            batch.clear()
+        self.assertEqual([tuple(it.row) for it in gotymbe.read(traces)], rows + rows)
+        self.assertEqual(traces, 2 * record([(schema, time, row) for time, row in enumerate(rows)]))
+
+    def test_values_of_a_wrong_kind(self):
+        """Each raises what Python raises, and nothing of the event is in the batch."""
+        for kind, value in ((POOLED_STRING, 5), (POOLED_STACK, 5), (U8, "x"), (STRING, 5), (STACK, 5), (I64, "x"),
+                            (VARINT, -1), (I64, 2**63), (LIST, 5), (STRING_MAP, 5), (STRING_MAP, {"a": 5}), (BYTES, 5),
+                            (F64, "x"), (MAP, [5]), (STACK, [-1])):
+            batch = Batch()
+            batch.add(Schema("A", [("a", U8)]), 1, [7])
+            before = batch.bytes()
+            with self.assertRaises((TypeError, ValueError, struct.error, OverflowError, AttributeError)):
+                batch.add(Schema("B", [("b", kind)]), 2, [value])
+            self.assertEqual(batch.bytes(), before)
+
+    def test_many_schemas(self):
+        """More schemas in a batch than a byte counts."""
+        schemas = [Schema(f"S{n}", [(f"f{n}", VARINT)]) for n in range(300)]
+        events = [(schema, n, [7 * n]) for n, schema in enumerate(schemas * 2)]
+        self.assertEqual([(it.name, it.time, it.values) for it in gotymbe.read(record(events))],
+                         [(schema.name, time, {schema.fields[0][0]: row[0]}) for schema, time, row in events])
+
+    def test_where_a_trace_is_torn(self):
+        """The place counts from the beginning of the trace, by whatever number of events it is read."""
+        torn = record([(Schema("A", [("n", VARINT)]), n, [n]) for n in range(50)]) + b"\x02\0\x01\0"
+        with self.assertRaises(TraceError) as it:
+            check(torn)
+        wanted = it.exception
+        self.assertEqual((wanted.code, wanted.length), (50, len(torn) - 4))
+        for most in (1, 7, 49, 50, 51):
+            with self.assertRaises(TraceError) as it:
+                list(gotymbe.read(torn, most))
+            found = it.exception
+            self.assertEqual((found.code, found.length, found.place, found.detail),
+                             (wanted.code, wanted.length, wanted.place, wanted.detail))
 
     def test_nothing_to_read(self):
         for state, code in ((b"", 58), (b"none", 60), (record([])[:4], 60), (record([(Schema("A", []), 1, [])]), 60)):

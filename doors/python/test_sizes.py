@@ -198,6 +198,23 @@ class Sizes(unittest.TestCase):
                 found = it.exception
                 self.assertEqual((found.code, found.place, found.detail), (code, 2, detail))
 
+    def test_refused_after_each_count(self):
+        """After so many events, and after as many schemas, texts and stacks, a record that is none, one of no schema,
+        one of another schema of a name, and one of too few values: its index is told."""
+        events, others = numbered(len(COUNTS)), Wanted()
+        for count in COUNTS:
+            others.schema(f"S{count}", [("it", VARINT)])
+            others.text(count, b"x" * count)
+            others.stack(count, (7,) * count)
+        for count in COUNTS:
+            for records, name in ((events.records[:1 + count], "One"), (others.records[:1 + 3 * count], "S0")):
+                for last, code in ((b"\5", 16), (b"\2\7\0" + number(9, 8) + number(0, 2), 17),
+                                   (b"\1\7\0" + named(name) + number(0, 4), 32),
+                                   (b"\2\0\1" + number(9, 8) + number(0, 2), 33)):
+                    with self.assertRaises(TraceError) as it:
+                        record_batch(b"".join(records) + last)
+                    self.assertEqual((it.exception.code, it.exception.place), (code, len(records)))
+
     def test_torn_traces(self):
         """A trace of each length, after which an event is torn, or no frame stands; and one without a header."""
         for size in SIZES:

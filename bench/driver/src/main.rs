@@ -3,6 +3,7 @@ mod extra;
 mod numbers;
 mod polls;
 mod reading;
+#[allow(dead_code)]
 mod timing;
 mod writing;
 
@@ -122,48 +123,33 @@ fn main() {
                 println!("{name:16} bytes {} sums {}", o.len(), if sums { "same" } else { "DIFFER" });
             }
         }
-        // time K EVENTS
+        // time K EVENTS [WORD]
         _ => {
-            let k: usize = a[1].parse().unwrap();
-            let n: u64 = a[2].parse().unwrap();
+            let (k, n): (usize, u64) = (a[1].parse().unwrap(), a[2].parse().unwrap());
             let only = a.get(3).cloned().unwrap_or_default();
-            let row = |name: &str, per: f64, (o, p): (f64, f64)| {
-                println!(
-                    "{name:34} original {:8.1} ns  library {:8.1} ns  ratio {:5.2}",
-                    o / per * 1e9,
-                    p / per * 1e9,
-                    p / o
-                )
-            };
-            for (w, name) in WORKS.iter().enumerate() {
-                if !name.contains(&only) {
-                    continue;
-                }
+            for (w, name) in WORKS.iter().enumerate().filter(|work| work.1.contains(&only)) {
                 let w = w as u32;
                 let m = if w == REGISTERS { n / 10000 + 1 } else { n };
                 let per = if w == REGISTERS { m as f64 * 1000.0 } else { m as f64 };
-                row(
-                    &format!("write {name}"),
-                    per,
-                    both(k, || written(w, m).len() as u64, || unsafe { port_write(w, m, 0) }),
-                );
-                if !READ.contains(name) {
-                    continue;
-                }
-                let data = written(w, m);
-                for (form, f) in FORMS.iter().enumerate() {
-                    let form = form as u32;
-                    row(
-                        &format!("{f} {name}"),
-                        per,
-                        both(
-                            k,
-                            || reading::decoded(form, &data),
-                            || unsafe { port_decode(form, data.as_ptr(), data.len()) },
-                        ),
-                    );
+                both(k, || written(w, m).len() as u64, || unsafe { port_write(w, m, 0) })
+                    .told(&format!("write {name}"), per);
+                if READ.contains(name) {
+                    time_reading(k, name, &written(w, m), m);
                 }
             }
+            for (trace, name) in extra::TRACES.iter().enumerate().filter(|trace| trace.1.contains(&only)) {
+                let m = n / if ["f1", "stack1", "smap"].contains(name) { 2 } else { 20 } + 1;
+                time_reading(k, name, &extra::written(trace as u32, m), m);
+            }
         }
+    }
+}
+
+/// Times the ways of reading a trace of so many events.
+fn time_reading(k: usize, name: &str, data: &[u8], events: u64) {
+    for (form, f) in FORMS.iter().enumerate() {
+        let form = form as u32;
+        both(k, || reading::decoded(form, data), || unsafe { port_decode(form, data.as_ptr(), data.len()) })
+            .told(&format!("{f} {name}"), events as f64);
     }
 }

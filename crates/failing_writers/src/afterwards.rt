@@ -63,7 +63,7 @@ fn begins_in<'w>(
         Ok(_) => encoder.bytes_written() == 5,
         Err(_) => false,
     };
-    let accepted = encoder.intern_string("hello").is_ok();
+    let accepted = encoder.intern_string("hello").is_ok() && encoder.flush().is_ok();
     let written = encoder.as_inner().0.bytes.len() == 23 && encoder.bytes_written() == 23;
     Ok(refused && reset && accepted && written)
 }

@@ -6,8 +6,9 @@ ghost use Rattle.failing_writers.specs.Wanted.{one_more};
 use crate::afterwards::{
     begins_again, counts_raw_bytes, fails_by_flush, keeps_old_writer, stays_failed_raw,
 };
+use crate::apart::{Apart, TRIED, Tried, is_accepted_twice, is_right_apart, places_of};
 use crate::breaking::{Fault, Manner};
-use crate::written::{Way, fails_to_flush, is_right};
+use crate::written::{SOUND, Way, fails_to_flush, is_right};
 use std::alloc::{AllocError, Global};
 use std::io::ErrorKind;
 use std::process::ExitCode;
@@ -69,7 +70,8 @@ fn run_all(rt: &(impl AllocGlobal + Print)) -> anyhow::Result<bool> {
     for worked in ALL {
         good = run_worked(rt, worked)? && good;
     }
-    Ok(run_afterwards(rt)? && good)
+    good = run_afterwards(rt)? && good;
+    Ok(run_apart(rt)? && good)
 }
 
 /// Writes one trace over all writers, and prints the counts.
@@ -128,4 +130,50 @@ fn run_afterwards(rt: &(impl AllocGlobal + Print)) -> anyhow::Result<bool> {
     let (tried, differ) = (counts.tried, counts.differ);
     println!(rt; "after a failure: {tried} tried; {differ} differ")?;
     Ok(differ == 0)
+}
+
+/// Tries what no worked trace has, and prints the counts.
+fn run_apart(rt: &(impl AllocGlobal + Print)) -> anyhow::Result<bool> {
+    let mut counts = Counts::new();
+    for tried in TRIED {
+        for place in 0..places_of(tried) {
+            count_at(rt.alloc(), tried, place, &mut counts);
+        }
+    }
+    for most in STEPS {
+        count_twice(rt.alloc(), most, &mut counts);
+    }
+    let (tried, differ) = (counts.tried, counts.differ);
+    println!(rt; "beside the traces: {tried} tried; {differ} differ")?;
+    Ok(differ == 0)
+}
+
+/// Tries it over writers that fail at this place.
+fn count_at(alloc: Global, tried: Tried, place: usize, counts: &mut Counts) {
+    for most in STEPS {
+        for fault in FAULTS {
+            for once in [false, true] {
+                let manner = Manner {
+                    most,
+                    place,
+                    fault,
+                    once,
+                    flushing: None,
+                };
+                counts.add(is_right_apart(alloc, tried, manner));
+            }
+        }
+    }
+}
+
+/// Makes each call twice over a writer that takes so many bytes at a time, and would fail to flush.
+fn count_twice(alloc: Global, most: usize, counts: &mut Counts) {
+    let manner = Manner {
+        most,
+        flushing: Some(ErrorKind::StorageFull),
+        ..SOUND
+    };
+    for apart in [Apart::Schema, Apart::Stacks] {
+        counts.add(is_accepted_twice(alloc, apart, manner));
+    }
 }

@@ -1,5 +1,10 @@
 //! The clocks of traces, which dates go by (docs/ROLES.md, "Clocks").
 
+ghost use Rattle.std.specs.Prelude.{◌≡◌, None, codes, option_map};
+ghost use Rattle.dial9_trace_format.specs.DecodedFrames.{item_of};
+ghost use Rattle.gotymbe_plan.specs.Moments.{IsAnyDate};
+ghost use Rattle.gotymbe.specs.Clocks.{IsZeroBy, IsZeroSaid};
+
 use crate::output::standing;
 use crate::pieces::{FrameSink, feed, read_named};
 use crate::tasks::Call;
@@ -10,17 +15,27 @@ use std::alloc::Global;
 use std::fs::File;
 use std::rt::{Clock, Files};
 use trace_roles::clock::clock_of;
+use trace_wire::schema::SchemaEntry;
 
 /// The nanoseconds since the beginning of 1970 at the zero of the clock that a frame says, if it says one.
-pub(crate) fn zero_said(frame: &DecodedFrame, decoder: &FeedDecoder) -> Option<i64> {
+pub(crate) fn zero_said(frame: &DecodedFrame, decoder: &FeedDecoder) -> Option<i64>
+    ensures { IsZeroSaid decoder.now.state.grammar.wire_types (item_of frame.now) result }
+{
     match frame {
-        DecodedFrame::SchemaAnnotations { type_id, .. } => {
-            match clock_of(decoder.registry().get(*type_id)?) {
-                Some(clock) => Some(clock.zero),
-                None => None,
-            }
-        }
+        DecodedFrame::SchemaAnnotations { type_id, .. } => zero_by(
+            decoder.registry().get(*type_id),
+        ),
         _ => None,
+    }
+}
+
+// The zero of the clock that a schema says, where it is known and says one.
+fn zero_by(entry: Option<&SchemaEntry>) -> Option<i64>
+    ensures { IsZeroBy (option_map (λ e. e.now) entry.entry) result }
+{
+    match clock_of(entry?) {
+        Some(clock) => Some(clock.zero),
+        None => None,
     }
 }
 
@@ -63,7 +78,10 @@ pub(crate) fn zero_of(
     rt: &(impl AllocGlobal + Files<File = File> + Input + Eprint + Clock),
     call: &Call<'_>,
     name: &str,
-) -> Option<i64> {
+) -> Option<i64>
+    ensures undated { ¬ IsAnyDate call.now.from call.now.to → result ≡ None }
+    ensures standard { name.now ≡ codes "-" → result ≡ None }
+{
     if !call.has_dates() || name == "-" || standing(rt, name) != Standing::File {
         return None;
     }
@@ -73,7 +91,9 @@ pub(crate) fn zero_of(
 }
 
 /// The zero of the first clock that a trace says, where a date is asked for.
-pub(crate) fn zero_in(alloc: Global, call: &Call<'_>, trace: &[u8]) -> Option<i64> {
+pub(crate) fn zero_in(alloc: Global, call: &Call<'_>, trace: &[u8]) -> Option<i64>
+    ensures { ¬ IsAnyDate call.now.from call.now.to → result ≡ None }
+{
     if !call.has_dates() {
         return None;
     }

@@ -1,5 +1,9 @@
 //! What is read.
 
+ghost use Rattle.std.specs.Prelude.{◌≡◌, IsSome, IfSome};
+ghost use Rattle.gotymbe_plan.specs.Progress.{IsToldOf};
+ghost use Rattle.gotymbe.specs.Reading.{IsFrontEnding};
+
 use crate::tasks::Call;
 use gotymbe_plan::ending::Ending;
 use gotymbe_plan::progress::{how_far, is_told_of, push_progress};
@@ -129,7 +133,10 @@ pub(crate) fn open<'h, H: AllocGlobal + Files<File = File> + Input + Eprint + Cl
 }
 
 // What tells how far the reading of so many bytes is, if that is told.
-fn meter_for(rt: &impl Clock, call: &Call<'_>, of: u64) -> Option<Meter> {
+fn meter_for(rt: &impl Clock, call: &Call<'_>, of: u64) -> Option<Meter>
+    ensures told { IsSome result → IsToldOf of call.now.terminal call.now.asked.now.quiet }
+    ensures begun { IfSome result (λ meter. (meter.of ≡ of) × (meter.done ≡ 0)) }
+{
     if !is_told_of(of, call.terminal, call.asked.quiet) {
         return None;
     }
@@ -161,20 +168,14 @@ pub(crate) fn read_all(
     };
     match read {
         Ok(_) => Ok(bytes),
-        Err(error) => Err(unread(error.kind())),
-    }
-}
-
-/// Why bytes can't be had, by the kind of error.
-pub(crate) fn unread(kind: ErrorKind) -> Ending {
-    match kind {
-        ErrorKind::OutOfMemory => Ending::OutOfMemory,
-        _ => Ending::Unread(kind),
+        Err(error) => Err(Ending::of_unread(error.kind())),
     }
 }
 
 /// How the reading of bytes ends.
-pub(crate) fn front_ending(alloc: Global, bytes: &[u8], readers: Readers) -> Ending {
+pub(crate) fn front_ending(alloc: Global, bytes: &[u8], readers: Readers) -> Ending
+    ensures { IsFrontEnding readers bytes.now result }
+{
     match whole_front(alloc, bytes, readers) {
         Ok(front) => Ending::of_stop(front.stop),
         Err(_) => Ending::OutOfMemory,

@@ -3,6 +3,11 @@
 //! `gotymbe_plan`; here that is joined.
 #![tactic(auto)]
 
+ghost use Rattle.std.specs.Prelude.{◌≡◌, ◌≢◌, IfOk, IfErr, None, option_map};
+ghost use Rattle.std.specs.declared.io.ErrorKind.TheVariants.{InvalidData};
+ghost use Rattle.gotymbe_plan.specs.Moments.{IsMomentGiven, SaysMoment};
+ghost use Rattle.gotymbe.specs.Calls.{IsGivenFor};
+
 mod clocks;
 mod events;
 mod follow;
@@ -14,6 +19,7 @@ mod tables;
 mod tasks;
 
 use crate::tasks::Call;
+use clap::ArgMatches;
 use clap::error::ErrorKind;
 use gotymbe_plan::moments::{moment_given, push_no_moment};
 use gotymbe_words::asked::{Asked, status_by, task_of, what_is_asked};
@@ -47,19 +53,36 @@ fn run(
         Err(error) => return Ok(tell_no_words(rt, error.kind())),
     };
     let words: Vec<String> = words.collect(alloc)?;
-    let command = command(alloc)?;
-    let matches = match command.try_get_matches_from(words.as_slice()) {
-        Ok(matches) => matches,
+    run_words(rt, words.as_slice(), terminal)
+}
+
+// Does what these words ask for, and answers the status.
+fn run_words(
+    rt: &(impl AllocGlobal + Files<File = File> + Input + Print + Eprint + Clock),
+    words: &[String],
+    terminal: bool,
+) -> anyhow::Result<u8> {
+    let command = command(rt.alloc())?;
+    match command.try_get_matches_from(words) {
+        Ok(matches) => run_matches(rt, &matches, terminal),
         Err(error) => {
             let _ = error.print(rt);
-            return Ok(status_by(error.kind()));
+            Ok(status_by(error.kind()))
         }
-    };
+    }
+}
+
+// Does what words that could be read ask for, and answers the status.
+fn run_matches(
+    rt: &(impl AllocGlobal + Files<File = File> + Input + Print + Eprint + Clock),
+    matches: &ArgMatches<'_>,
+    terminal: bool,
+) -> anyhow::Result<u8> {
     match matches.subcommand() {
         Some((name, given)) => match task_of(name) {
             Some(task) => {
-                let asked = what_is_asked(alloc, task, given)?;
-                carry_out(rt, asked, terminal)
+                let asked = what_is_asked(rt.alloc(), task, given)?;
+                carry_out(rt, &asked, terminal)
             }
             None => Ok(FAILED),
         },
@@ -68,7 +91,10 @@ fn run(
 }
 
 // Tells why the words of the call can't be had, and answers the status.
-fn tell_no_words(rt: &impl Eprint, kind: io::ErrorKind) -> u8 {
+fn tell_no_words(rt: &impl Eprint, kind: io::ErrorKind) -> u8
+    ensures no_text { kind ≡ InvalidData → result ≡ 64 }
+    ensures memory { kind ≢ InvalidData → result ≡ 4 }
+{
     match kind {
         io::ErrorKind::InvalidData => {
             let _ = eprintln!(rt; "error: a word of the call is no text in UTF-8");
@@ -84,34 +110,46 @@ fn tell_no_words(rt: &impl Eprint, kind: io::ErrorKind) -> u8 {
 // Does what is asked for, and answers the status; where a text that is given for a time says none, it tells that alone.
 fn carry_out(
     rt: &(impl AllocGlobal + Files<File = File> + Input + Print + Eprint + Clock),
-    asked: Asked<'_>,
+    asked: &Asked<'_>,
     terminal: bool,
 ) -> anyhow::Result<u8> {
+    match call_of(asked, terminal) {
+        Ok(call) => tasks::carry_out(rt, &call),
+        Err((option, text)) => tell_no_moment(rt, option, text),
+    }
+}
+
+// The call that asks for this; or the option with a text that says no time.
+fn call_of<'a>(asked: &'a Asked<'a>, terminal: bool) -> Result<Call<'a>, (&'static str, &'a str)>
+    ensures asked { IfOk result (λ call. call.asked.now ≡ asked.now) }
+    ensures from { IfOk result (λ call.
+        IsMomentGiven (option_map (λ s. s.now) asked.now.from) call.from) }
+    ensures to { IfOk result (λ call.
+        IsMomentGiven (option_map (λ s. s.now) asked.now.to) call.to) }
+    ensures terminal { IfOk result (λ call. call.terminal ≡ terminal) }
+    ensures option { IfErr result (λ told. IsGivenFor asked.now told.0.now told.1.now) }
+    ensures no_moment { IfErr result (λ told. SaysMoment told.1.now None) }
+{
     let from = match moment_given(asked.from) {
         Ok(from) => from,
-        Err(text) => return tell_no_moment(rt, "from", text),
+        Err(text) => return Err(("from", text)),
     };
     let to = match moment_given(asked.to) {
         Ok(to) => to,
-        Err(text) => return tell_no_moment(rt, "to", text),
+        Err(text) => return Err(("to", text)),
     };
-    tasks::carry_out(
-        rt,
-        &Call {
-            asked,
-            from,
-            to,
-            terminal,
-        },
-    )
+    Ok(Call {
+        asked,
+        from,
+        to,
+        terminal,
+    })
 }
 
 // Tells that a text says no time, and answers the status.
-fn tell_no_moment(
-    rt: &(impl AllocGlobal + Eprint),
-    option: &str,
-    text: &str,
-) -> anyhow::Result<u8> {
+fn tell_no_moment(rt: &(impl AllocGlobal + Eprint), option: &str, text: &str) -> anyhow::Result<u8>
+    ensures { IfOk result (λ status. status ≡ 64) }
+{
     let mut line = String::new(rt.alloc());
     push_no_moment(&mut line, option, text)?;
     let _ = eprint!(rt; "{line}");

@@ -1,12 +1,14 @@
 //! Frames of an input that is read in pieces.
 
+ghost use Rattle.std.specs.Prelude.{◌≡◌, take};
+ghost use Rattle.gotymbe.specs.Reading.{IsFedEnding, IsEndingInside, IsPlaced, KeepsCause, IsEndingAgain};
+
 use crate::clocks::zero_said;
-use crate::input::{open, unread};
+use crate::input::open;
 use crate::tasks::Call;
-use dial9_trace_format::decoder::{DecodedFrame, FeedDecoder};
+use dial9_trace_format::decoder::{DecodeErrorKind, DecodedFrame, FeedDecoder};
 use gotymbe_plan::ending::{Ending, lacks_cause};
 use gotymbe_plan::picking::Picker;
-use std::alloc::Global;
 use std::fs::File;
 use std::io::{ErrorKind, Read};
 use std::rt::{Clock, Files};
@@ -75,6 +77,7 @@ impl<'n> Picked<'n> {
 
     /// The event that a frame is, if it is one that is asked for; an ending where as many were taken as are asked for,
     /// and where a date is asked for and no frame so far says a clock.
+    #[inline(always)]
     pub(crate) fn pick<'f>(
         &mut self,
         frame: &'f DecodedFrame,
@@ -131,7 +134,7 @@ impl FrameSink for Tally<'_> {
         };
         match self.stats.add_owned(&event, bytes) {
             Ok(()) => self.picked.go_on(),
-            Err(_) => Err(Ending::OutOfMemory),
+            Err(error) => Err(Ending::from(error)),
         }
     }
 
@@ -160,29 +163,34 @@ pub(crate) fn read_named<S: FrameSink>(
     name: &str,
     sink: &mut S,
 ) -> Ending {
-    let ending = match open(rt, call, name) {
-        Ok(mut input) => {
-            let ending = read_frames(rt.alloc(), &mut input, sink);
-            input.finish();
-            ending
-        }
-        Err(error) => unread(error.kind()),
-    };
+    let ending = read_frames(rt, call, name, sink);
     placed(rt, call, name, ending)
 }
 
 /// How an input ended that a decoder was fed: all of it, or as far as that took it.
-pub(crate) fn ending_by(decoder: &FeedDecoder) -> Ending {
-    if let Some(fault) = decoder.fault() {
-        return Ending::of_error(*fault);
+pub(crate) fn ending_by(decoder: &FeedDecoder) -> Ending
+    ensures { IsFedEnding decoder.now.state result }
+{
+    match decoder.fault() {
+        Some(fault) => Ending::of_error(*fault),
+        None => {
+            let rest = Ending::of_rest(decoder.version(), decoder.position(), decoder.fed_len());
+            match rest {
+                Ending::Unfinished(_) => ending_inside(decoder),
+                _ => rest,
+            }
+        }
     }
-    let rest = Ending::of_rest(decoder.version(), decoder.position(), decoder.fed_len());
-    let Ending::Unfinished(_) = rest else {
-        return rest;
-    };
+}
+
+// How an input ended whose last bytes make no frame whole, of a decoder that has not failed: by the cause why none
+// stands there, if one is found.
+fn ending_inside(decoder: &FeedDecoder) -> Ending
+    ensures { IsEndingInside decoder.now.state result }
+{
     match decoder.cause() {
         Ok(Some(error)) => Ending::of_error(error),
-        Ok(None) => rest,
+        Ok(None) => Ending::Unfinished(decoder.position()),
         Err(_) => Ending::OutOfMemory,
     }
 }
@@ -194,38 +202,84 @@ pub(crate) fn placed(
     call: &Call<'_>,
     name: &str,
     ending: Ending,
-) -> Ending {
-    let Ending::Stopped(stop) = ending else {
-        return ending;
-    };
-    if !lacks_cause(ending, name) {
-        return ending;
-    }
-    let mut decoder = FeedDecoder::new(rt.alloc());
-    let before = (stop.place as u64).saturating_sub(1);
-    match open(rt, call, name) {
-        Ok(mut input) => {
-            let again = feed(&mut input, &mut decoder, &mut Nothing, before);
-            input.finish();
-            match again {
-                Ending::Unread(_) | Ending::OutOfMemory => again,
-                _ => Ending::Stopped(Stop {
-                    place: decoder.position(),
-                    cause: stop.cause,
-                }),
+) -> Ending
+    ensures { IsPlaced name.now ending result }
+{
+    match ending {
+        Ending::Stopped(stop) => {
+            if lacks_cause(ending, name) {
+                return placed_stop(rt, call, name, stop);
             }
+            ending
         }
-        Err(error) => unread(error.kind()),
+        _ => ending,
     }
 }
 
-// Gives the frames of an input to a sink, and answers how reading ended.
-fn read_frames<R: Read, S: FrameSink>(alloc: Global, input: &mut R, sink: &mut S) -> Ending {
-    let mut decoder = FeedDecoder::new(alloc);
-    let ending = feed(input, &mut decoder, sink, u64::MAX);
-    match sink.end(ending, decoder.position()) {
-        Ok(()) => ending,
-        Err(failed) => failed,
+// The ending of a file at a schema that conflicts, which ends at the place that is told, with the place where that
+// begins.
+fn placed_stop(
+    rt: &(impl AllocGlobal + Files<File = File> + Input + Eprint + Clock),
+    call: &Call<'_>,
+    name: &str,
+    stop: Stop,
+) -> Ending
+    ensures { KeepsCause stop.cause result }
+{
+    let mut decoder = FeedDecoder::new(rt.alloc());
+    let before = (stop.place as u64).saturating_sub(1);
+    let again = feed_named(rt, call, name, &mut decoder, &mut Nothing, before);
+    ending_again(again, decoder.position(), stop.cause)
+}
+
+// The ending of a file that stops by this cause, where it was read once more up to a place, and reading ended so; or
+// by the kind of error by which it was not opened again.
+fn ending_again(again: Result<Ending, ErrorKind>, place: usize, cause: DecodeErrorKind) -> Ending
+    ensures cause { KeepsCause cause result }
+    ensures place { IsEndingAgain again place result }
+{
+    match again {
+        Ok(Ending::Unread(kind)) => Ending::Unread(kind),
+        Ok(Ending::OutOfMemory) => Ending::OutOfMemory,
+        Ok(_) => Ending::Stopped(Stop { place, cause }),
+        Err(kind) => Ending::of_unread(kind),
+    }
+}
+
+// Gives the frames of a file to a sink, and answers how reading ended.
+fn read_frames<S: FrameSink>(
+    rt: &(impl AllocGlobal + Files<File = File> + Input + Eprint + Clock),
+    call: &Call<'_>,
+    name: &str,
+    sink: &mut S,
+) -> Ending {
+    let mut decoder = FeedDecoder::new(rt.alloc());
+    match feed_named(rt, call, name, &mut decoder, sink, u64::MAX) {
+        Ok(ending) => match sink.end(ending, decoder.position()) {
+            Ok(()) => ending,
+            Err(failed) => failed,
+        },
+        Err(kind) => Ending::of_unread(kind),
+    }
+}
+
+// Feeds so many bytes of a file to a decoder, or all that it has, and answers how reading ended; or by which kind of
+// error the file can't be opened.
+fn feed_named<S: FrameSink>(
+    rt: &(impl AllocGlobal + Files<File = File> + Input + Eprint + Clock),
+    call: &Call<'_>,
+    name: &str,
+    decoder: &mut FeedDecoder,
+    sink: &mut S,
+    most: u64,
+) -> Result<Ending, ErrorKind> {
+    match open(rt, call, name) {
+        Ok(mut input) => {
+            let ending = feed(&mut input, decoder, sink, most);
+            input.finish();
+            Ok(ending)
+        }
+        Err(error) => Err(error.kind()),
     }
 }
 
@@ -253,7 +307,7 @@ pub(crate) fn feed<R: Read, S: FrameSink>(
             }
             Err(error) => {
                 if error.kind() != ErrorKind::Interrupted {
-                    return unread(error.kind());
+                    return Ending::of_unread(error.kind());
                 }
             }
         }
@@ -262,15 +316,16 @@ pub(crate) fn feed<R: Read, S: FrameSink>(
 }
 
 // At most so many bytes of a piece.
-fn front_of(piece: &[u8], most: u64) -> &[u8] {
+fn front_of(piece: &[u8], most: u64) -> &[u8]
+    ensures { result.now ≡ take most piece.now }
+{
     match usize::try_from(most) {
         Ok(most) => piece.get(..most).unwrap_or(piece),
         Err(_) => piece,
     }
 }
 
-// Gives the frames that are whole with a piece to a sink; or an ending, where no more are read. The frame before them
-// has an end, and the bytes of each are those after it: a reset may come with an earlier piece.
+// Gives the frames that are whole with a piece to a sink; or an ending, where no more are read.
 fn take_piece<S: FrameSink>(
     decoder: &mut FeedDecoder,
     piece: &[u8],
@@ -281,27 +336,46 @@ fn take_piece<S: FrameSink>(
         return Err(Ending::of_error(error));
     }
     'frames: for _ in 0..u64::MAX {
-        let begun = decoder.version().is_some();
-        let pulled = decoder.next_frame();
-        if !begun {
-            if let Some(version) = decoder.version() {
-                sink.begin(version)?;
-            }
-        }
-        match pulled {
-            Ok(Some(frame)) => {
-                let bytes = decoder.position().saturating_sub(*end) as u64;
-                *end = decoder.position();
-                sink.frame(&frame, decoder, bytes)?;
-            }
-            Ok(None) => {
-                return match decoder.stuck() {
-                    Some(_) => Err(ending_by(decoder)),
-                    None => sink.settle(),
-                };
-            }
-            Err(error) => return Err(Ending::of_error(error)),
+        if !take_frame(decoder, sink, end)? {
+            return match decoder.stuck() {
+                Some(_) => Err(ending_by(decoder)),
+                None => sink.settle(),
+            };
         }
     }
     Ok(())
+}
+
+// Gives the next frame that is whole to a sink, and answers whether there is one; or an ending, where no more are read.
+fn take_frame<S: FrameSink>(
+    decoder: &mut FeedDecoder,
+    sink: &mut S,
+    end: &mut usize,
+) -> Result<bool, Ending> {
+    let begun = decoder.version().is_some();
+    let pulled = decoder.next_frame();
+    if !begun {
+        if let Some(version) = decoder.version() {
+            sink.begin(version)?;
+        }
+    }
+    match pulled {
+        Ok(Some(frame)) => hand_on(&frame, decoder, sink, end),
+        Ok(None) => Ok(false),
+        Err(error) => Err(Ending::of_error(error)),
+    }
+}
+
+// Gives a frame to a sink, with its bytes: those after the end of the frame before it, since a reset may have come with
+// an earlier piece.
+fn hand_on<S: FrameSink>(
+    frame: &DecodedFrame,
+    decoder: &FeedDecoder,
+    sink: &mut S,
+    end: &mut usize,
+) -> Result<bool, Ending> {
+    let bytes = decoder.position().saturating_sub(*end) as u64;
+    *end = decoder.position();
+    sink.frame(frame, decoder, bytes)?;
+    Ok(true)
 }

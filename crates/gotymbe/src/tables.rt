@@ -1,10 +1,14 @@
 //! Events as rows of tables, in files of a folder (docs/TOOLS.md, "Tables").
 
+ghost use Rattle.std.specs.Prelude.{IsTrue, IfSome, IfNone, IsSomeAnd, All, slice_get};
+ghost use Rattle.trace_events.specs.Schemas.{is_same_schema};
+
 use crate::output::{Place, begin_place};
 use crate::pieces::{FrameSink, Picked};
 use csv::{ByteRecord, Writer};
 use dial9_trace_format::decoder::{DecodedFrame, FeedDecoder};
 use gotymbe_plan::ending::Ending;
+use gotymbe_plan::tables::{Due, rows_due};
 use std::alloc::{AllocError, Global};
 use std::fs::File;
 use std::mem;
@@ -17,11 +21,6 @@ use trace_csv::tables::push_table;
 use trace_events::event::OwnedEvent;
 use trace_events::schema::is_same_schema;
 use trace_wire::schema::SchemaEntry;
-
-// The rows of a table are written once they have so many bytes, and those of all tables once these have so many.
-const ENOUGH: u64 = 65_536;
-
-const TOO_MUCH: u64 = 8_388_608;
 
 // How many places of tables are looked at first, by wire id.
 const GUESSES: usize = 256;
@@ -133,13 +132,11 @@ impl<'c, 'r, R: AllocGlobal + Files<File = File>> Tables<'c, 'r, R> {
         table.rows = table.rows.saturating_add(1);
         table.held = table.held.saturating_add(bytes);
         self.held = self.held.saturating_add(bytes);
-        if table.held >= ENOUGH {
-            return self.write_rows(place);
+        match rows_due(table.held, self.held) {
+            Due::Nothing => Ok(()),
+            Due::Table => self.write_rows(place),
+            Due::All => self.write_all_rows(),
         }
-        if self.held >= TOO_MUCH {
-            return self.write_all_rows();
-        }
-        Ok(())
     }
 
     // Writes the rows of all tables.
@@ -283,7 +280,12 @@ impl<R: AllocGlobal + Files<File = File>> FrameSink for Tables<'_, '_, R> {
 }
 
 // Where the table of a schema stands, if it does: at the guessed place, or elsewhere.
-fn place_of(tables: &[Table], guess: usize, schema: &SchemaEntry) -> Option<usize> {
+fn place_of(tables: &[Table], guess: usize, schema: &SchemaEntry) -> Option<usize>
+    ensures same { IfSome result (λ place. IsSomeAnd (slice_get tables.now place)
+        (λ table. IsTrue (is_same_schema table.schema schema.now))) }
+    ensures other { IfNone result
+        (All (λ table. ¬ IsTrue (is_same_schema table.schema schema.now)) tables.now) }
+{
     if let Some(table) = tables.get(guess) {
         if is_same_schema(&table.schema, schema) {
             return Some(guess);

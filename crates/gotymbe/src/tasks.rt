@@ -1,5 +1,9 @@
 //! What is done, task by task.
 
+ghost use Rattle.std.specs.Prelude.{◌≡◌, ◌↔◌, IfOk, IsTrue};
+ghost use Rattle.gotymbe_plan.specs.Endings.{HasStatus};
+ghost use Rattle.gotymbe_plan.specs.Moments.{IsAnyDate};
+
 use crate::input::read_all;
 use crate::merge::merge_all;
 use crate::output::{Noted, STANDARD, Written, begin};
@@ -12,7 +16,7 @@ use std::fs::File;
 use std::io;
 use std::rt::{Clock, Files};
 use trace_lines::dump::WHOLE;
-use trace_values::leb128::{Plain, TraceWrite};
+use trace_values::leb128::{Plain, TraceWrite, send_all};
 
 mod charting;
 mod folding;
@@ -23,9 +27,9 @@ mod showing;
 mod tabling;
 
 /// What is asked for, and whether standard error is a terminal.
-#[derive(Drop)]
+#[derive(Clone, Copy)]
 pub(crate) struct Call<'a> {
-    pub(crate) asked: Asked<'a>,
+    pub(crate) asked: &'a Asked<'a>,
     pub(crate) from: Option<Moment>,
     pub(crate) to: Option<Moment>,
     pub(crate) terminal: bool,
@@ -33,7 +37,11 @@ pub(crate) struct Call<'a> {
 
 impl Call<'_> {
     /// Which events are asked for.
-    pub(crate) fn wanted(&self) -> Wanted<'_> {
+    pub(crate) fn wanted(&self) -> Wanted<'_>
+        ensures from { result.from ≡ self.now.from }
+        ensures to { result.to ≡ self.now.to }
+        ensures names { result.names.now ≡ self.now.asked.now.events.items }
+    {
         Wanted {
             from: self.from,
             to: self.to,
@@ -42,7 +50,9 @@ impl Call<'_> {
     }
 
     /// Whether a date is asked for.
-    pub(crate) fn has_dates(&self) -> bool {
+    pub(crate) fn has_dates(&self) -> bool
+        ensures { IsTrue result ↔ IsAnyDate self.now.from self.now.to }
+    {
         is_any_date(self.from, self.to)
     }
 }
@@ -52,12 +62,13 @@ pub(crate) fn carry_out(
     rt: &(impl AllocGlobal + Files<File = File> + Input + Print + Eprint + Clock),
     call: &Call<'_>,
 ) -> anyhow::Result<u8> {
-    match call.asked.task {
-        Task::Check => Ok(showing::check(rt, call)?),
-        Task::Csv => Ok(tabling::write_tables(rt, call)?),
-        Task::Follow => Ok(following::follow(rt, call)?),
-        _ => Ok(write(rt, call)?),
-    }
+    let done = match call.asked.task {
+        Task::Check => showing::check(rt, call),
+        Task::Csv => tabling::write_tables(rt, call),
+        Task::Follow => following::follow(rt, call),
+        _ => write(rt, call),
+    };
+    Ok(done?)
 }
 
 /// Tells how the reading of a file ended, and answers the status.
@@ -65,7 +76,9 @@ pub(crate) fn tell(
     rt: &(impl AllocGlobal + Eprint),
     name: &str,
     ending: Ending,
-) -> Result<u8, AllocError> {
+) -> Result<u8, AllocError>
+    ensures { IfOk result (HasStatus ending) }
+{
     let mut line = String::new(rt.alloc());
     push_message(&mut line, name, ending)?;
     let _ = eprint!(rt; "{line}");
@@ -158,6 +171,20 @@ pub(crate) fn settle<W: TraceWrite + Drop>(
     match out.settle() {
         Ok(()) => Ok(status),
         Err(error) => tell(rt, written, Ending::Unwritten(error.kind())),
+    }
+}
+
+/// Writes a text, settles what is written, and answers the status, this one where that did not fail.
+pub(crate) fn write_text<W: TraceWrite + Drop>(
+    rt: &(impl AllocGlobal + Eprint),
+    written: &str,
+    out: &mut Noted<W>,
+    text: &str,
+    status: u8,
+) -> Result<u8, AllocError> {
+    match send_all(out, text.as_bytes()) {
+        Ok(()) => settle(rt, written, out, status),
+        Err(fault) => tell(rt, written, Ending::Unwritten(fault.kind)),
     }
 }
 

@@ -4,5 +4,4 @@ pub mod beside;
 pub mod fed;
 pub mod program;
 pub mod reading;
-pub mod resolving;
 pub mod tally;

@@ -2,6 +2,7 @@
 
 pub mod asks;
 pub mod before;
+pub mod causes;
 pub mod copies;
 pub mod dumping;
 pub mod encoding;
@@ -9,6 +10,7 @@ pub mod events;
 pub mod feeding;
 pub mod free;
 pub mod heap;
+pub mod known;
 pub mod lists;
 pub mod parts;
 pub mod plan;

@@ -7,7 +7,7 @@ pub const HEAD: &str = "<!doctype html>
 <head>
 <meta charset=\"utf-8\">
 <meta http-equiv=\"Content-Security-Policy\" content=\"default-src 'none';
-  script-src 'sha256-hOpnDhFsDCW1WXoqoaprS/ZQq4i32cdl8gI5VRhPG9c=';
+  script-src 'sha256-MOjiQ+eAWmx/k4LT4GrQWb28I/v3DAKAOr4wUP7HVSQ=';
   style-src 'sha256-7Ce6TegYy3iLcNdVChw1ebDIc3OwkziIPAnwY40L0Lc=';
   img-src data:;
   base-uri 'none';
@@ -609,12 +609,15 @@ function findTracks() {
     else found.push(find(\"name\", schema.group ?? schema.name, () => schema.group ?? schema.name));
   }
   const order = (a, b) =>
-    a.sort - b.sort || (a.sort === 0 ? numberOf(a.key) - numberOf(b.key) : 0) || (a.sort === 1 ? textOrder(a, b) : 0);
+    a.sort - b.sort || (a.sort === 0 ? sizeOrder(a.key, b.key) : 0) || (a.sort === 1 ? textOrder(a, b) : 0);
   trace.tracks = [...tracks.values()].sort((a, b) => order(a, b) || a.at - b.at);
   trace.tracks.forEach((track, at) => { track.at = at; });
   trace.trackOf = new Uint32Array(trace.count);
   for (let event = 0; event < trace.count; event++) trace.trackOf[event] = found[event].at;
 }
+
+// (doubles do not tell all numbers apart)
+const sizeOrder = (a, b) => numberOf(a) - numberOf(b) || Number(BigInt(a) - BigInt(b));
 
 // (numbers in texts stand by their size)
 const textOrder = (a, b) => (a.order < b.order ? -1 : a.order > b.order ? 1 : 0);

@@ -105,7 +105,7 @@ fn are_pairs(
 }
 
 /// Whether the addresses are those of the stack, in order.
-fn is_stack(addresses: &[u64], stack: &StackFramesRef<'_>) -> bool
+pub fn is_stack(addresses: &[u64], stack: &StackFramesRef<'_>) -> bool
     ensures { IsTrue result ↔ (addresses.now ≡ stack_view stack.now) }
 {
     let mut others = stack.iter();

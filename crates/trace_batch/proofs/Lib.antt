@@ -1,6 +1,6 @@
 pub mod RecordsRead
 pub mod RecordsBefore
-pub mod BatchesRead
+pub mod BatchRecords
 pub mod Accepted
 pub mod RecordsPut
 pub mod SchemaRecords

@@ -98,13 +98,14 @@ ConvertsFirstItems told p xs i old values new =
 -- one item more was converted
 pub item_converted :
     {W : Type 0} (told : W → Account) (p : Pools) (xs : List FieldValueRef) (i : ℕ) (x : FieldValueRef)
-    (values : List FieldValue) (w : FieldValue) (more : List FieldValue) (old mid new : EncoderView W) → i < length xs
-    → x ≡ get_or xs i x → more ≡ values ++ w ∷ [] → ConvertsFirstItems told p xs i old values mid
+    (values : List FieldValue) (w : FieldValue) (room more : List FieldValue) (old mid new : EncoderView W)
+    → i < length xs → x ≡ get_or xs i x → more ≡ room ++ w ∷ [] → room ≡ values
+    → ConvertsFirstItems told p xs i old values mid
     → ConvertsValue told p (ref_view x) mid (view w) new → ConvertsFirstItems told p xs (i + 1) old more new
-item_converted {W} told p xs i x values w more old mid new inside is pushed h one =
+item_converted {W} told p xs i x values w room more old mid new inside is pushed kept h one =
     subst (λ (ws : List Value).
     ConvertsItems told p (values_to_items (ref_views (take (i + 1) xs))) old (values_to_items ws) new)
-    (sym (ap views pushed ∙ map-append view values (w ∷ [])))
+    (sym (ap views (pushed ∙ ap (λ (vs : List FieldValue). vs ++ w ∷ []) kept) ∙ map-append view values (w ∷ [])))
     (subst (λ (vs : List Value).
     ConvertsItems told p (values_to_items vs) old (values_to_items (views values ++ view w ∷ [])) new)
     (sym (ap ref_views (taken xs i x inside is) ∙ map-append ref_view (take i xs) (x ∷ [])))
@@ -144,15 +145,16 @@ pair_view x = (view x.0, view x.1)
 pub pair_converted :
     {W : Type 0} (told : W → Account) (p : Pools) (xs : List (FieldValueRef × FieldValueRef)) (i : ℕ)
     (x : FieldValueRef × FieldValueRef) (values : List (FieldValue × FieldValue)) (w : FieldValue × FieldValue)
-    (more : List (FieldValue × FieldValue)) (old mid first new : EncoderView W) → i < length xs → x ≡ get_or xs i x
-    → more ≡ values ++ w ∷ [] → ConvertsFirstPairs told p xs i old values mid
+    (room more : List (FieldValue × FieldValue)) (old mid first new : EncoderView W) → i < length xs
+    → x ≡ get_or xs i x → more ≡ room ++ w ∷ [] → room ≡ values → ConvertsFirstPairs told p xs i old values mid
     → ConvertsValue told p (ref_view x.0) mid (view w.0) first
     → ConvertsValue told p (ref_view x.1) first (view w.1) new
     → ConvertsFirstPairs told p xs (i + 1) old more new
-pair_converted {W} told p xs i x values w more old mid first new inside is pushed h key one =
+pair_converted {W} told p xs i x values w room more old mid first new inside is pushed kept h key one =
     subst (λ (ws : List (Value × Value)).
     ConvertsPairs told p (values_to_pairs (ref_pair_views (take (i + 1) xs))) old (values_to_pairs ws) new)
-    (sym (ap pair_views pushed ∙ map-append pair_view values (w ∷ [])))
+    (sym (ap pair_views (pushed ∙ ap (λ (vs : List (FieldValue × FieldValue)). vs ++ w ∷ []) kept)
+    ∙ map-append pair_view values (w ∷ [])))
     (subst (λ (vs : List (Value × Value)).
     ConvertsPairs told p (values_to_pairs vs) old (values_to_pairs (pair_views values ++ pair_view w ∷ [])) new)
     (sym (ap ref_pair_views (taken xs i x inside is) ∙ map-append ref_pair_view (take i xs) (x ∷ [])))

@@ -14,7 +14,7 @@ mod Depths
 mod PieceLines
 mod PulledLines
 mod PiecesGathered
-mod PiecesSent
+mod DumpSoFar
 mod ShownForms
 mod NamedValues
 mod FrameLines

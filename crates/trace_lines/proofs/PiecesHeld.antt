@@ -36,7 +36,7 @@ use Rattle.trace_lines.specs.parts.PieceDumps.{AreNextLines, ArePieceLines, IsFe
 use Rattle.trace_lines.specs.parts.PieceDumps.{CountsPiece, SendsPiece}
 use Rattle.trace_lines.specs.SentLines.{Leaves}
 use Rattle.trace_lines.specs.parts.SentLines.{GoOut, LineGrows, unsent}
-use Rattle.trace_lines.specs.parts.SentPieces.{GathersSent, HoldsNext, PutsEvent, PutsNext}
+use Rattle.trace_lines.specs.parts.NextLines.{GathersSent, HoldsNext, PutsEvent, PutsNext}
 use Rattle.trace_lines.proofs.PieceLines.{known_come}
 use Rattle.trace_lines.proofs.PiecesGathered.{Gathered, front_so_far, gathered_after, gathered_begins, last_one}
 use Rattle.trace_lines.proofs.PiecesGathered.{no_more, none_yet, nothing_gathered, one_more}

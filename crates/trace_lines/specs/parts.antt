@@ -9,4 +9,4 @@ pub mod TextLaws
 pub mod SentLines
 pub mod LineLaws
 pub mod SpelledLines
-pub mod SentPieces
+pub mod NextLines

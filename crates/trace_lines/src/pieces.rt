@@ -7,7 +7,7 @@ ghost use Rattle.trace_lines.specs.PieceDumps.{DumpsFrontOfBytes, DumpsFrontOfRe
 ghost use Rattle.trace_lines.specs.parts.PieceDumps.{IsFed, IsWaiting, AreNextLines, IsLeft};
 ghost use Rattle.trace_lines.specs.parts.PieceDumps.{AppendsEnd, AppendsFirst, PulledLines, SendsPiece, SendsRead};
 ghost use Rattle.trace_lines.specs.parts.PieceDumps.{CountsPiece, StuckLines};
-ghost use Rattle.trace_lines.specs.parts.SentPieces.{GathersSent, HoldsNext, PutsEvent, PutsNext};
+ghost use Rattle.trace_lines.specs.parts.NextLines.{GathersSent, HoldsNext, PutsEvent, PutsNext};
 ghost use Rattle.dial9_trace_format.specs.WholeEvents.{IsWholeEvent};
 ghost use Rattle.dial9_trace_format.specs.CompactFrames.{compact_item_of};
 ghost use Rattle.dial9_trace_format.specs.DecodedFrames.{next_as};

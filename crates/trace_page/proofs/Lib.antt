@@ -1,7 +1,7 @@
 pub mod EscapedStrings
 pub mod EscapedNumbers
 pub mod EscapedText
-pub mod SentPieces
+pub mod EscapedSends
 pub mod RefusedPages
 pub mod Chains
 pub mod Growing

@@ -281,6 +281,10 @@ impl<W: Write> Recorder<W> {
 
     /// Records an event of the schema, at a time in nanoseconds. Where a batch is sent with it, or before it, and
     /// refused, the error names the record, and nothing of the batch was written; it is dropped, with the event.
+    ///
+    /// # Panics
+    ///
+    /// Where [`Batch::event`] does.
     pub fn event(&mut self, schema: &Schema, time: u64, values: &[Value<'_>]) -> Result<(), Error> {
         let number = match self.batch.schemas.get(schema) {
             Some(number) => *number,

@@ -4,6 +4,7 @@ use gotymbe_door::{
     check, dump, events, read_batch, record_batch, Batch, Cause, Error, Event, FieldType, ReadValue, Recorder, Schema,
     Value,
 };
+use std::io::Write;
 use std::path::Path;
 
 fn all_types() -> Schema {
@@ -68,6 +69,9 @@ fn each_type() -> Result<(), Error> {
     assert_eq!(read[0].get("k"), Some(&ReadValue::Stack(vec![16, 255])));
     assert_eq!(read[0].get("d"), Some(&ReadValue::Map(vec![(ReadValue::Bool(false), ReadValue::List(vec![]))])));
     assert_eq!(read[0].get("o"), Some(&ReadValue::Absent));
+    assert_eq!(*read[0].schema, all_types());
+    let tags: Vec<_> = read[0].schema.field_tags().collect();
+    assert_eq!(tags, [1, 2, 3, 4, 5, 7, 6, 8, 9, 10, 11, 12, 13, 14, 15, 0x8f, 0x8b]);
     // what was read, recorded again: the annotations too
     assert!(dump(&trace, false)?.lines.contains("\"unit\"") && dump(&trace, false)?.lines.contains("\"ns\""));
     assert_eq!(record_batch(&read_batch(&[], &trace, 1)?.batch)?, trace);
@@ -111,6 +115,94 @@ fn batches_join() -> Result<(), Error> {
     };
     assert!(*place < torn.len());
     assert_eq!(read.version(), 1);
+    Ok(())
+}
+
+// Texts and stacks of one length are told apart, and told again in the next batch.
+#[test]
+fn pools_of_batches() -> Result<(), Error> {
+    let sample =
+        Schema::new("Sample").field("at", FieldType::PooledString).field("stack", FieldType::PooledStackFrames);
+    let rows: [(&str, &[u64]); 5] = [("ab", &[1, 2]), ("cd", &[3, 4]), ("ab", &[3, 4]), ("cd", &[1, 2]), ("", &[])];
+    for most in [1, 100, 1_000_000] {
+        let mut recorder = Recorder::with_batches(Vec::new(), most);
+        for (text, stack) in rows.iter().cycle().take(20) {
+            recorder.event(&sample, 7, &[Value::Pooled(text), Value::PooledStack(stack)])?;
+        }
+        let trace = recorder.finish()?;
+        let read: Vec<_> = events(&trace)?.map(|event| event.values).collect();
+        let wanted: Vec<_> = rows
+            .iter()
+            .cycle()
+            .take(20)
+            .map(|(text, stack)| vec![ReadValue::Text(text.to_string()), ReadValue::Stack(stack.to_vec())])
+            .collect();
+        assert_eq!(read, wanted);
+    }
+    Ok(())
+}
+
+// The place counts from the beginning of the trace, also after batches of events that were read.
+#[test]
+fn where_a_trace_is_torn() -> Result<(), Error> {
+    let tick = Schema::new("Tick").field("n", FieldType::Varint);
+    let mut recorder = Recorder::new(Vec::new());
+    for n in 0..2_500 {
+        recorder.event(&tick, n, &[Value::Number(n)])?;
+    }
+    let mut torn = recorder.finish()?;
+    torn.extend_from_slice(&[2, 0, 1, 0]);
+    let wanted = check(&torn).unwrap_err();
+    let mut read = events(&torn)?;
+    assert_eq!(read.by_ref().count(), 2_500);
+    assert_eq!(format!("{:?}", read.stop().unwrap()), format!("{wanted:?}"));
+    Ok(())
+}
+
+// A writer that counts how often it was flushed.
+#[derive(Default)]
+struct Flushed {
+    bytes: Vec<u8>,
+    flushes: usize,
+}
+
+impl Write for Flushed {
+    fn write(&mut self, bytes: &[u8]) -> std::io::Result<usize> {
+        self.bytes.write(bytes)
+    }
+
+    fn flush(&mut self) -> std::io::Result<()> {
+        self.flushes += 1;
+        Ok(())
+    }
+}
+
+#[test]
+fn flushed_and_refused_batches() -> Result<(), Error> {
+    let tick = Schema::new("Tick").field("n", FieldType::Varint);
+    let mut recorder = Recorder::new(Flushed::default());
+    recorder.event(&tick, 1, &[Value::Number(1)])?;
+    recorder.flush()?;
+    recorder.event(&tick, 2, &[Value::Bool(true)])?;
+    assert!(matches!(recorder.flush(), Err(Error::Batch { cause: Cause::Misfit, record: 1, detail: 0 })));
+    // the batch that was refused is dropped
+    recorder.event(&tick, 3, &[Value::Number(3)])?;
+    let written = recorder.finish()?;
+    assert_eq!(written.flushes, 2);
+    assert_eq!(events(&written.bytes)?.map(|event| event.time).collect::<Vec<_>>(), [1, 3]);
+    Ok(())
+}
+
+// The status of a dump is that of `tracedump` (docs/FORMAT.md, "Dumps").
+#[test]
+fn statuses_of_dumps() -> Result<(), Error> {
+    let trace = Recorder::new(Vec::new()).finish()?;
+    assert_eq!((trace.len(), dump(&trace, false)?.status), (0, 1));
+    let mut recorder = Recorder::new(Vec::new());
+    recorder.event(&Schema::new("Tick"), 1, &[])?;
+    let trace = recorder.finish()?;
+    assert_eq!(dump(&trace, true)?.status, 0);
+    assert_eq!(dump(&trace[..trace.len() - 1], true)?.status, 2);
     Ok(())
 }
 

@@ -1,5 +1,9 @@
 //! Writing events in Chrome's format.
 
+ghost use Rattle.std.specs.Prelude.{◌≡◌, ◌↔◌, IsOk, Err};
+ghost use Rattle.trace_chrome.specs.declared.sending.ChromeError.{ChromeError};
+ghost use Rattle.gotymbe.specs.Failures.{chrome_ending};
+
 use crate::clocks::zero_of;
 use crate::output::Noted;
 use crate::pieces::{FrameSink, Picked, read_named};
@@ -52,7 +56,11 @@ impl<W: TraceWrite> FrameSink for Entries<'_, '_, W> {
 }
 
 // An ending where a part of the text was not sent.
-fn sent(part: Result<(), ChromeError>) -> Result<(), Ending> {
+fn sent(part: Result<(), ChromeError>) -> Result<(), Ending>
+    ensures sent { IsOk result ↔ IsOk part }
+    ensures failed { (error : ChromeError) → part ≡ Err error
+        → result ≡ Err (chrome_ending error) }
+{
     match part {
         Ok(()) => Ok(()),
         Err(ChromeError::OutOfMemory) => Err(Ending::OutOfMemory),

@@ -1,9 +1,12 @@
 //! Adding up the stacks of events.
 
+ghost use Rattle.std.specs.Prelude.{◌≡◌};
+ghost use Rattle.gotymbe.specs.Failures.{fold_ending};
+
 use crate::clocks::zero_of;
 use crate::output::Noted;
 use crate::pieces::{FrameSink, Picked, read_named};
-use crate::tasks::{Call, settle, tell};
+use crate::tasks::{Call, tell, write_text};
 use dial9_trace_format::decoder::{DecodedFrame, FeedDecoder};
 use gotymbe_plan::ending::Ending;
 use std::alloc::AllocError;
@@ -11,7 +14,7 @@ use std::fs::File;
 use std::rt::{Clock, Files};
 use trace_folded::tally::{FoldError, FoldedStacks};
 use trace_lines::dump::WHOLE;
-use trace_values::leb128::{TraceWrite, send_all};
+use trace_values::leb128::TraceWrite;
 
 /// Adds up the stacks of the events that are asked for.
 #[derive(Drop)]
@@ -37,8 +40,7 @@ impl FrameSink for Folding<'_> {
         };
         match self.stacks.add_event(&event, self.field) {
             Ok(()) => self.picked.go_on(),
-            Err(FoldError::OutOfMemory) => Err(Ending::OutOfMemory),
-            Err(FoldError::Full) => Err(Ending::TooMuch),
+            Err(error) => Err(uncounted(error)),
         }
     }
 
@@ -48,6 +50,16 @@ impl FrameSink for Folding<'_> {
 
     fn end(&mut self, _: Ending, _: usize) -> Result<(), Ending> {
         Ok(())
+    }
+}
+
+// The ending where a stack was not counted.
+fn uncounted(error: FoldError) -> Ending
+    ensures { result ≡ fold_ending error }
+{
+    match error {
+        FoldError::OutOfMemory => Ending::OutOfMemory,
+        FoldError::Full => Ending::TooMuch,
     }
 }
 
@@ -63,15 +75,22 @@ pub(crate) fn fold_all<W: TraceWrite + Drop>(
         field: call.asked.field,
         picked: Picked::of(call, None),
     };
+    let status = add_all(rt, call, &mut folding)?;
+    let lines = folding.stacks.lines()?;
+    write_text(rt, written, out, &lines, status)
+}
+
+// Adds up the stacks of the events of all files, and answers the status.
+fn add_all<'c>(
+    rt: &(impl AllocGlobal + Files<File = File> + Input + Eprint + Clock),
+    call: &'c Call<'_>,
+    folding: &mut Folding<'c>,
+) -> Result<u8, AllocError> {
     let mut status = WHOLE;
     for name in call.asked.files.as_slice() {
         folding.picked = Picked::of(call, zero_of(rt, call, name));
-        let ending = read_named(rt, call, name, &mut folding);
+        let ending = read_named(rt, call, name, folding);
         status = status.max(tell(rt, name, ending)?);
     }
-    let lines = folding.stacks.lines()?;
-    match send_all(out, lines.as_bytes()) {
-        Ok(()) => settle(rt, written, out, status),
-        Err(fault) => tell(rt, written, Ending::Unwritten(fault.kind)),
-    }
+    Ok(status)
 }

@@ -1,12 +1,11 @@
 //! Following a file as it grows.
 
 use crate::follow::{End, Following};
-use crate::input::unread;
 use crate::output::{Noted, STANDARD, standing};
 use crate::pieces::{ending_by, placed};
 use crate::tasks::{Call, tell, write};
 use dial9_trace_format::decoder::FeedDecoder;
-use gotymbe_plan::ending::{Ending, dump_ending};
+use gotymbe_plan::ending::{Ending, dump_ending, told_of};
 use gotymbe_plan::following::{Change, push_anew};
 use gotymbe_plan::output::Standing;
 use std::alloc::AllocError;
@@ -32,7 +31,7 @@ pub(crate) fn follow(
     'traces: for _ in 0..u64::MAX {
         let mut input = match Following::open(rt, name, call.asked.idle) {
             Ok(input) => input,
-            Err(error) => return tell(rt, name, unread(error.kind())),
+            Err(error) => return tell(rt, name, Ending::of_unread(error.kind())),
         };
         let mut out = Noted {
             inner: Plain(io::writer(rt)),
@@ -47,19 +46,11 @@ pub(crate) fn follow(
                     Ending::Dumped(_) => placed(rt, call, name, ending_by(&decoder)),
                     ending => ending,
                 };
-                return tell(rt, told_of(name, ending), ending);
+                return tell(rt, told_of(ending, name, STANDARD), ending);
             }
         }
     }
     Ok(FAILED)
-}
-
-// The name of the file that an ending is told of: what is written goes to standard output.
-fn told_of(name: &str, ending: Ending) -> &str {
-    match ending {
-        Ending::Unwritten(_) => STANDARD,
-        _ => name,
-    }
 }
 
 // Tells why a file is read anew.

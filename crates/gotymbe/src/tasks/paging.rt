@@ -1,5 +1,8 @@
 //! Writing a page that shows traces.
 
+ghost use Rattle.std.specs.Prelude.{◌≡◌};
+ghost use Rattle.gotymbe.specs.Failures.{page_ending};
+
 use crate::clocks::{zero_of, zero_said};
 use crate::output::Noted;
 use crate::pieces::{FrameSink, Picked, read_named};
@@ -23,13 +26,16 @@ struct Gathered<'n> {
     picked: Picked<'n>,
     // the zero of the clock that the file's first schema with one says
     zero: Option<i64>,
+    // what is said of the files that did not end well
+    ends: String,
 }
 
 impl Gathered<'_> {
-    // Ends a file, whose clock has the zero that it said, if it said one.
-    fn end_file(&mut self) -> Result<(), AllocError> {
+    // Ends a file, whose clock has the zero that it said, if it said one, and says how its reading ended.
+    fn end_file(&mut self, name: &str, ending: Ending) -> Result<(), AllocError> {
         let zero = self.zero;
-        self.data.end_file(zero)
+        self.data.end_file(zero)?;
+        push_end(&mut self.ends, name, ending)
     }
 }
 
@@ -74,26 +80,68 @@ pub(crate) fn write_page<W: TraceWrite + Drop>(
         data: PageData::new(rt.alloc())?,
         picked: Picked::of(call, None),
         zero: None,
+        ends: String::new(rt.alloc()),
     };
-    let mut ends = String::new(rt.alloc());
+    match gather_all(rt, call, &mut gathered)? {
+        Ok(status) => write_gathered(rt, call, gathered, written, out, status),
+        Err(status) => Ok(status),
+    }
+}
+
+// Gathers the events of all files, and answers the status; as an error where memory was refused.
+fn gather_all<'n>(
+    rt: &(impl AllocGlobal + Files<File = File> + Input + Eprint + Clock),
+    call: &'n Call<'_>,
+    gathered: &mut Gathered<'n>,
+) -> Result<Result<u8, u8>, AllocError> {
     let mut status = WHOLE;
     for name in call.asked.files.as_slice() {
-        let zero = zero_of(rt, call, name);
-        gathered.zero = zero;
-        gathered.picked = Picked::of(call, zero);
-        let ending = read_named(rt, call, name, &mut gathered);
+        let ending = gather(rt, call, name, gathered);
         status = status.max(tell(rt, name, ending)?);
         if ending == Ending::OutOfMemory {
-            return Ok(status);
+            return Ok(Err(status));
         }
-        gathered.end_file()?;
-        push_end(&mut ends, name, ending)?;
+        gathered.end_file(name, ending)?;
     }
+    Ok(Ok(status))
+}
+
+// Gathers the events of a file, and answers how its reading ends.
+fn gather<'n>(
+    rt: &(impl AllocGlobal + Files<File = File> + Input + Eprint + Clock),
+    call: &'n Call<'_>,
+    name: &str,
+    gathered: &mut Gathered<'n>,
+) -> Ending {
+    let zero = zero_of(rt, call, name);
+    gathered.zero = zero;
+    gathered.picked = Picked::of(call, zero);
+    read_named(rt, call, name, gathered)
+}
+
+// Writes the page of the events that were gathered.
+fn write_gathered<W: TraceWrite + Drop>(
+    rt: &(impl AllocGlobal + Eprint),
+    call: &Call<'_>,
+    gathered: Gathered<'_>,
+    written: &str,
+    out: &mut Noted<W>,
+    status: u8,
+) -> Result<u8, AllocError> {
     let title = title_of(call.asked.title, &call.asked.files);
-    let data = gathered.data.finish(title, said(&ends))?;
+    let data = gathered.data.finish(title, said(&gathered.ends))?;
     match send_page(rt.alloc(), out, HEAD, &data, TAIL) {
         Ok(()) => settle(rt, written, out, status),
-        Err(PageError::Writer(kind)) => tell(rt, written, Ending::Unwritten(kind)),
-        Err(PageError::OutOfMemory) => tell(rt, written, Ending::OutOfMemory),
+        Err(error) => tell(rt, written, unsent(error)),
+    }
+}
+
+// The ending where a page was not sent.
+fn unsent(error: PageError) -> Ending
+    ensures { result ≡ page_ending error }
+{
+    match error {
+        PageError::OutOfMemory => Ending::OutOfMemory,
+        PageError::Writer(kind) => Ending::Unwritten(kind),
     }
 }

@@ -1,10 +1,15 @@
 //! Writing traces: what reads whole of them, several joined, and cuts.
 
+ghost use Rattle.std.specs.Prelude.{◌≡◌, IfOk};
+ghost use Rattle.gotymbe.specs.Failures.{cut_ending};
+ghost use Rattle.gotymbe.specs.Reading.{TellsGaps};
+
 use crate::clocks::zero_in;
 use crate::input::{front_ending, read_all};
 use crate::output::Noted;
 use crate::tasks::{Call, read_each, settle, tell};
 use gotymbe_plan::ending::Ending;
+use gotymbe_plan::gaps::{greatest_status, last_of};
 use std::alloc::AllocError;
 use std::fs::File;
 use std::rt::{Clock, Files};
@@ -12,7 +17,7 @@ use trace_cuts::cut::{CutError, send_cut};
 use trace_cuts::range::TimeRange;
 use trace_fronts::joining::join;
 use trace_fronts::pieces::{Gap, salvage_pieces};
-use trace_fronts::salvaging::{SalvageError, salvage};
+use trace_fronts::salvaging::salvage;
 use trace_fronts::whole::Readers;
 use trace_lines::dump::WHOLE;
 use trace_values::leb128::TraceWrite;
@@ -32,13 +37,13 @@ pub(crate) fn salvage_one<W: TraceWrite + Drop>(
     if bytes.is_empty() || !call.asked.resync {
         let ending = match salvage(rt.alloc(), &bytes, Readers::Owned, out) {
             Ok(front) => Ending::of_stop(front.stop),
-            Err(error) => unsaved(error),
+            Err(error) => Ending::from(error),
         };
         return Ok((ending, WHOLE));
     }
     match salvage_pieces(rt.alloc(), &bytes, Readers::Owned, out) {
         Ok(gaps) => tell_gaps(rt, name, &gaps),
-        Err(error) => Ok((unsaved(error), WHOLE)),
+        Err(error) => Ok((Ending::from(error), WHOLE)),
     }
 }
 
@@ -47,13 +52,14 @@ fn tell_gaps(
     rt: &(impl AllocGlobal + Eprint),
     name: &str,
     gaps: &[Gap],
-) -> Result<(Ending, u8), AllocError> {
-    let (mut last, mut status) = (Ending::Whole, WHOLE);
-    for gap in gaps {
-        status = status.max(tell(rt, name, last)?);
-        last = Ending::Stopped(gap.stop);
+) -> Result<(Ending, u8), AllocError>
+    ensures { IfOk result (λ told. TellsGaps gaps.now told.0 told.1) }
+{
+    let (before, last) = last_of(gaps);
+    for gap in before {
+        tell(rt, name, Ending::Stopped(gap.stop))?;
     }
-    Ok((last, status))
+    Ok((last, greatest_status(before)))
 }
 
 /// Cuts a range of times out of a file.
@@ -73,8 +79,17 @@ pub(crate) fn cut_one<W: TraceWrite + Drop>(
     let (from, to) = filter.bounds();
     match send_cut(rt.alloc(), &bytes, TimeRange { from, to }, out) {
         Ok(_) => front_ending(rt.alloc(), &bytes, Readers::Owned),
-        Err(CutError::OutOfMemory) => Ending::OutOfMemory,
-        Err(CutError::Writer(kind)) => Ending::Unwritten(kind),
+        Err(error) => uncut(error),
+    }
+}
+
+// The ending where a cut was not sent.
+fn uncut(error: CutError) -> Ending
+    ensures { result ≡ cut_ending error }
+{
+    match error {
+        CutError::OutOfMemory => Ending::OutOfMemory,
+        CutError::Writer(kind) => Ending::Unwritten(kind),
     }
 }
 
@@ -95,7 +110,7 @@ pub(crate) fn join_all<W: TraceWrite + Drop>(
     }
     let fronts = match join(rt.alloc(), inputs.as_slice(), Readers::Owned, out) {
         Ok(fronts) => fronts,
-        Err(error) => return tell(rt, written, unsaved(error)),
+        Err(error) => return tell(rt, written, Ending::from(error)),
     };
     if let Err(error) = out.settle() {
         return tell(rt, written, Ending::Unwritten(error.kind()));
@@ -105,11 +120,4 @@ pub(crate) fn join_all<W: TraceWrite + Drop>(
         status = status.max(tell(rt, name, Ending::of_stop(front.stop))?);
     }
     Ok(status)
-}
-
-fn unsaved(error: SalvageError) -> Ending {
-    match error {
-        SalvageError::OutOfMemory => Ending::OutOfMemory,
-        SalvageError::Writer(kind) => Ending::Unwritten(kind),
-    }
 }

@@ -1,15 +1,14 @@
 //! Showing what traces hold: checking, dumping, counting, and lines of JSON.
 
 use crate::clocks::zero_of;
-use crate::events::{EventLines, Form};
-use crate::input::{open, unread};
+use crate::events::{EventLines, Lines};
+use crate::input::open;
 use crate::output::{Noted, STANDARD};
 use crate::pieces::{Picked, Tally, ending_by, ending_of, placed, read_named};
-use crate::tasks::{Call, settle, tell};
+use crate::tasks::{Call, settle, tell, write_text};
 use dial9_trace_format::decoder::FeedDecoder;
 use gotymbe_plan::ending::{Ending, dump_ending, push_whole};
 use gotymbe_plan::statistics::push_stats;
-use gotymbe_words::asked::Task;
 use std::alloc::AllocError;
 use std::fs::File;
 use std::io;
@@ -54,18 +53,25 @@ pub(crate) fn stats_of_all<W: TraceWrite + Drop>(
         stats: TraceStats::new(rt.alloc()),
         picked: Picked::of(call, None),
     };
+    let status = count_all(rt, call, &mut tally)?;
+    let mut lines = String::new(rt.alloc());
+    push_stats(&mut lines, &tally.stats)?;
+    write_text(rt, written, out, &lines, status)
+}
+
+// Counts the events of all files, and answers the status.
+fn count_all<'n>(
+    rt: &(impl AllocGlobal + Files<File = File> + Input + Eprint + Clock),
+    call: &'n Call<'_>,
+    tally: &mut Tally<'n>,
+) -> Result<u8, AllocError> {
     let mut status = WHOLE;
     for name in call.asked.files.as_slice() {
         tally.picked = Picked::of(call, zero_of(rt, call, name));
-        let ending = read_named(rt, call, name, &mut tally);
+        let ending = read_named(rt, call, name, tally);
         status = status.max(tell(rt, name, ending)?);
     }
-    let mut lines = String::new(rt.alloc());
-    push_stats(&mut lines, &tally.stats)?;
-    match send_all(out, lines.as_bytes()) {
-        Ok(()) => settle(rt, written, out, status),
-        Err(fault) => tell(rt, written, Ending::Unwritten(fault.kind)),
-    }
+    Ok(status)
 }
 
 /// Writes the lines of a file as it is read: of its frames, or of its events.
@@ -75,33 +81,15 @@ pub(crate) fn show_one<W: TraceWrite + Drop>(
     name: &str,
     out: &mut Noted<W>,
 ) -> Ending {
-    let Some(form) = form_of(call) else {
+    let Some(form) = call.asked.form() else {
         return dump_frames(rt, call, name, out);
     };
     let mut lines = EventLines {
-        alloc: rt.alloc(),
-        form,
         picked: Picked::of(call, zero_of(rt, call, name)),
-        line: String::new(rt.alloc()),
-        json: Vec::new(rt.alloc()),
-        held: Vec::new(rt.alloc()),
+        lines: Lines::new(rt.alloc(), form),
         out,
     };
     read_named(rt, call, name, &mut lines)
-}
-
-// The form of the lines, where they are those of events.
-fn form_of(call: &Call<'_>) -> Option<Form> {
-    if call.asked.task == Task::Json {
-        return Some(Form::Json);
-    }
-    if call.asked.selects() {
-        return Some(Form::Resolved);
-    }
-    if call.asked.resolve {
-        return Some(Form::Dump);
-    }
-    None
 }
 
 // Writes the dump of a file's frames, as it is read.
@@ -113,7 +101,7 @@ fn dump_frames<W: TraceWrite + Drop>(
 ) -> Ending {
     let mut input = match open(rt, call, name) {
         Ok(input) => input,
-        Err(error) => return unread(error.kind()),
+        Err(error) => return Ending::of_unread(error.kind()),
     };
     let mut decoder = FeedDecoder::new(rt.alloc());
     let status = dump_fed(rt.alloc(), &mut decoder, &mut input, out);

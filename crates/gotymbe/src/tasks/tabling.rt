@@ -38,27 +38,39 @@ fn fill_folder(
     folder: &str,
 ) -> Result<u8, AllocError> {
     let mut tables = Tables::new(rt, folder, call.asked.force, Picked::of(call, None));
-    let mut status = WHOLE;
-    for name in call.asked.files.as_slice() {
-        tables.picked = Picked::of(call, zero_of(rt, call, name));
-        let ending = read_named(rt, call, name, &mut tables);
-        if let Ending::Unwritten(_) = ending {
-            tables.give_up();
-            return tell_failed(rt, folder, &tables, ending);
-        }
-        status = status.max(tell(rt, name, ending)?);
-    }
-    if !is_kept(status) {
-        tables.give_up();
-        return Ok(status);
-    }
-    match tables.finish() {
-        Ok(()) => Ok(status),
+    match fill_all(rt, call, &mut tables)? {
+        Ok(status) => Ok(status),
         Err(ending) => {
             tables.give_up();
             tell_failed(rt, folder, &tables, ending)
         }
     }
+}
+
+// Writes the tables of all files, and answers the status, or why they can't be written. None is left where a file
+// can't be read.
+fn fill_all<'c, R: AllocGlobal + Files<File = File> + Input + Eprint + Clock>(
+    rt: &R,
+    call: &'c Call<'_>,
+    tables: &mut Tables<'c, '_, R>,
+) -> Result<Result<u8, Ending>, AllocError> {
+    let mut status = WHOLE;
+    for name in call.asked.files.as_slice() {
+        tables.picked = Picked::of(call, zero_of(rt, call, name));
+        let ending = read_named(rt, call, name, tables);
+        if let Ending::Unwritten(_) = ending {
+            return Ok(Err(ending));
+        }
+        status = status.max(tell(rt, name, ending)?);
+    }
+    if is_kept(status) {
+        return match tables.finish() {
+            Ok(()) => Ok(Ok(status)),
+            Err(ending) => Ok(Err(ending)),
+        };
+    }
+    tables.give_up();
+    Ok(Ok(status))
 }
 
 // Tells which file of the folder can't be written, and why.

@@ -2,13 +2,13 @@
 
 use crate::calls::{decoder_of, next_borrowed, place_of, show};
 use crate::changed::reading::unless_memory;
-use crate::changed::resolving::is_resolved;
+use dial9_trace_format::DeserError;
 use dial9_trace_format::decoder::{
     DecodeError, DecodedFrameRef, Decoder, EventSink, RawEvent, TryForEachError,
 };
-use reader_agreement::causes::is_told_for;
-use reader_agreement::ends::Ended;
 use reader_agreement::events::{is_described, is_shown};
+use reader_agreement::readings::Showing;
+use reader_agreement::resolved::is_resolved;
 use std::alloc::{AllocError, Global};
 
 /// Compares each event that it is shown with the next one that a reader beside it gives.
@@ -61,7 +61,16 @@ fn is_next<'a>(
     }
     let (texts, stacks) = (reader.string_pool(), reader.stack_pool());
     let described = is_described(reader.registry(), texts, stacks, event);
-    Ok(described & is_resolved(alloc, reader, event)?)
+    Ok(described & resolves(alloc, event)?)
+}
+
+/// Whether the event resolves as look-ups by hand show it.
+fn resolves(alloc: Global, event: &RawEvent<'_, '_>) -> Result<bool, AllocError> {
+    let answer = event.resolve(alloc);
+    if matches!(answer, Err(DeserError::OutOfMemory)) {
+        return Err(AllocError);
+    }
+    Ok(is_resolved(event, &answer))
 }
 
 /// The next frame that is an event.
@@ -111,63 +120,53 @@ fn answer_of(answer: Result<(), TryForEachError<Refusal>>) -> Result<Answer, All
     }
 }
 
-/// What a sink is to be shown of a trace: so many events, and then the end, as a reader of frames ends.
-#[derive(Clone, Copy)]
-pub struct Wanted<'b> {
-    pub bytes: &'b [u8],
-    pub events: usize,
-    pub ended: Ended,
+/// What is shown of the bytes, which have so many events, to a sink that takes all, or refuses each.
+pub fn showing_of(
+    alloc: Global,
+    bytes: &[u8],
+    events: usize,
+    refuses: bool,
+) -> Result<Showing, AllocError> {
+    let mut sink = sink_of(alloc, bytes, refuses)?;
+    let mut decoder = decoder_of(alloc, bytes)?;
+    showing_by(&mut decoder, &mut sink, events)
 }
 
-impl<'b> Wanted<'b> {
-    /// Whether a sink is shown so that takes all events, or refuses each.
-    pub fn is_shown(self, alloc: Global, refuses: bool) -> Result<bool, AllocError> {
-        let mut sink = sink_of(alloc, self.bytes, refuses)?;
-        let mut decoder = decoder_of(alloc, self.bytes)?;
-        self.is_shown_by(&mut decoder, &mut sink)
-    }
+fn showing_by<'a>(
+    decoder: &mut Decoder<'a>,
+    sink: &mut Beside<'a>,
+    events: usize,
+) -> Result<Showing, AllocError> {
+    let refused = !sink.refuses || are_refused(decoder, sink, events)?;
+    let answer = answer_of(show(decoder, sink))?;
+    Ok(Showing {
+        events: sink.events,
+        right: refused && sink.right && !matches!(answer, Answer::Refused),
+        told: error_in(answer),
+        place: place_of(decoder),
+    })
+}
 
-    fn is_shown_by<'a>(
-        self,
-        decoder: &mut Decoder<'a>,
-        sink: &mut Beside<'a>,
-    ) -> Result<bool, AllocError> {
-        if sink.refuses && !self.is_refused(decoder, sink)? {
+/// Whether the sink refuses so many events, one in a call, each time where its reader stands.
+fn are_refused<'a>(
+    decoder: &mut Decoder<'a>,
+    sink: &mut Beside<'a>,
+    events: usize,
+) -> Result<bool, AllocError> {
+    for _ in 0..events {
+        let answer = answer_of(show(decoder, sink))?;
+        let refused = matches!(answer, Answer::Refused);
+        if !refused || place_of(decoder) != place_of(&sink.reader) {
             return Ok(false);
         }
-        self.is_ended(decoder, sink)
     }
+    Ok(true)
+}
 
-    /// Whether the sink refuses each event, one in a call.
-    fn is_refused<'a>(
-        self,
-        decoder: &mut Decoder<'a>,
-        sink: &mut Beside<'a>,
-    ) -> Result<bool, AllocError> {
-        for _ in 0..self.events {
-            let answer = answer_of(show(decoder, sink))?;
-            let refused = matches!(answer, Answer::Refused);
-            if !refused || place_of(decoder) != place_of(&sink.reader) {
-                return Ok(false);
-            }
-        }
-        Ok(true)
-    }
-
-    /// Whether the sink is shown what is left, and the end is as it should be.
-    fn is_ended<'a>(
-        self,
-        decoder: &mut Decoder<'a>,
-        sink: &mut Beside<'a>,
-    ) -> Result<bool, AllocError> {
-        let told = match answer_of(show(decoder, sink))? {
-            Answer::Nothing => None,
-            Answer::Error(error) => Some(error),
-            Answer::Refused => return Ok(false),
-        };
-        let shown = sink.right && sink.events == self.events;
-        let place = place_of(decoder) == self.ended.place;
-        Ok(shown && place && is_told_for(self.bytes, told, &self.ended))
+fn error_in(answer: Answer) -> Option<DecodeError> {
+    match answer {
+        Answer::Error(error) => Some(error),
+        _ => None,
     }
 }
 

@@ -1,63 +1,99 @@
 //! A trace that is fed in two pieces.
 
 use crate::calls::feed;
-use crate::changed::reading::unless_memory;
-use crate::refused::feeding::{Feeding, Form};
-use crate::refused::runs::Reference;
-use dial9_trace_format::decoder::{DecodeErrorKind, FeedDecoder};
-use reader_agreement::ends::{Ended, is_same_error};
+use crate::changed::reading::{NOTHING, unless_memory};
+use dial9_trace_format::decoder::{DecodeError, DecodedFrame, FeedDecoder};
+use reader_agreement::ends::Ended;
+use reader_agreement::readings::{Fed, Unread};
 use std::alloc::{AllocError, Global};
 
-/// Whether a decoder that is fed the trace in two pieces cut at this place gives its frames, and ends as they do.
-pub fn gives_fed(alloc: Global, reference: &Reference<'_>, place: usize) -> bool {
-    let feeding = Feeding {
-        reference,
-        form: Form::Feed,
-        place,
+/// What a decoder gives that is fed the bytes in two pieces, cut at this place.
+pub fn fed_of(alloc: Global, bytes: &[u8], place: usize) -> Result<Fed, AllocError> {
+    let mut fed = Fed {
+        frames: Vec::new(alloc),
+        first: None,
+        between: None,
+        second: None,
+        ended: NOTHING,
     };
-    let mut decoder = FeedDecoder::new(alloc);
-    let run = feeding.run(&mut decoder);
-    run.same
-        & (run.given == reference.owned.frames.len())
-        & is_ended(&decoder, &reference.owned.ended)
+    match feed_into(
+        &mut fed,
+        &mut FeedDecoder::new(alloc),
+        pieces_of(bytes, place),
+    ) {
+        Ok(()) => Ok(fed),
+        Err(error) => Err(error),
+    }
 }
 
-/// Whether a decoder that was fed stands so, and has failed by that error or not.
-fn is_ended(decoder: &FeedDecoder, ended: &Ended) -> bool {
-    let faults = match (decoder.fault(), &ended.error) {
-        (None, None) => true,
-        (Some(fault), Some(error)) => is_same_error(fault, error),
-        _ => false,
-    };
-    faults & (decoder.position() == ended.place)
+/// The bytes in two pieces, cut at this place, or at the end where they have no such place.
+fn pieces_of(bytes: &[u8], place: usize) -> [&[u8]; 2] {
+    let place = place.min(bytes.len());
+    [&bytes[..place], &bytes[place..]]
 }
 
-/// Whether a decoder that is fed the pieces, which have no header in front, gives nothing: it has failed where there
-/// are five bytes or more.
-pub fn gives_none(alloc: Global, pieces: [&[u8]; 2]) -> Result<bool, AllocError> {
-    let mut decoder = FeedDecoder::new(alloc);
-    give_nothing(&mut decoder, pieces)
-}
-
-fn give_nothing(decoder: &mut FeedDecoder, pieces: [&[u8]; 2]) -> Result<bool, AllocError> {
-    let [first, second] = pieces;
-    let whole = first.len().saturating_add(second.len());
-    let first = gives_nothing(decoder, first, first.len())?;
-    let second = gives_nothing(decoder, second, whole)?;
-    Ok(first & second & (decoder.position() == 0) & (decoder.version() == None))
-}
-
-/// Whether this piece, up to which there are so many bytes, gives no frame, or that error.
-fn gives_nothing(
+fn feed_into(
+    fed: &mut Fed,
     decoder: &mut FeedDecoder,
-    piece: &[u8],
-    length: usize,
-) -> Result<bool, AllocError> {
-    match feed(decoder, piece) {
-        Ok(frames) => Ok(frames.is_empty() & (length < 5)),
-        Err(error) => {
-            let told = unless_memory(error)?.kind == DecodeErrorKind::NoHeader;
-            Ok(told & (length >= 5))
+    pieces: [&[u8]; 2],
+) -> Result<(), AllocError> {
+    let [first, second] = pieces;
+    fed.first = put(feed(decoder, first), &mut fed.frames)?;
+    fed.between = fault_of(decoder);
+    fed.second = put(feed(decoder, second), &mut fed.frames)?;
+    fed.ended = Ended {
+        error: fault_of(decoder),
+        place: decoder.position(),
+    };
+    Ok(())
+}
+
+fn fault_of(decoder: &FeedDecoder) -> Option<DecodeError> {
+    decoder.fault().copied()
+}
+
+/// Puts the frames that a piece gave after the others, and answers the error that it was answered with.
+fn put(
+    answer: Result<Vec<DecodedFrame>, DecodeError>,
+    frames: &mut Vec<DecodedFrame>,
+) -> Result<Option<DecodeError>, AllocError> {
+    match answer {
+        Ok(given) => {
+            put_all(given, frames)?;
+            Ok(None)
         }
+        Err(error) => Ok(Some(unless_memory(error)?)),
+    }
+}
+
+fn put_all(given: Vec<DecodedFrame>, frames: &mut Vec<DecodedFrame>) -> Result<(), AllocError> {
+    for frame in given {
+        frames.push(frame)?;
+    }
+    Ok(())
+}
+
+/// What a decoder does that is fed bytes without a header in two pieces, cut at this place.
+pub fn unread_of(alloc: Global, bytes: &[u8], place: usize) -> Result<Unread, AllocError> {
+    unread_by(&mut FeedDecoder::new(alloc), pieces_of(bytes, place))
+}
+
+fn unread_by(decoder: &mut FeedDecoder, pieces: [&[u8]; 2]) -> Result<Unread, AllocError> {
+    let [first, second] = pieces;
+    Ok(Unread {
+        first: answer_of(feed(decoder, first))?,
+        second: answer_of(feed(decoder, second))?,
+        position: decoder.position(),
+        version: decoder.version(),
+    })
+}
+
+/// How many frames a piece gave, or by which error it was answered.
+fn answer_of(
+    answer: Result<Vec<DecodedFrame>, DecodeError>,
+) -> Result<Result<usize, DecodeError>, AllocError> {
+    match answer {
+        Ok(frames) => Ok(Ok(frames.len())),
+        Err(error) => Ok(Err(unless_memory(error)?)),
     }
 }

@@ -1,15 +1,16 @@
 //! What the program does and prints of changed traces.
 
-use crate::calls::{decoder_of, place_of, step};
-use crate::changed::beside::Wanted;
-use crate::changed::fed::{gives_fed, gives_none};
+use crate::calls::{decoder_of, next_owned, place_of, step};
+use crate::changed::beside::showing_of;
+use crate::changed::fed::{fed_of, unread_of};
 use crate::changed::reading::events_of;
 use crate::changed::tally::{End, Shown, Tally};
-use crate::refused::runs::{Reader, Reference, Run, reference_of};
-use dial9_trace_format::decoder::{DecodeError, Decoder};
+use crate::refused::plan::HEADER;
+use crate::refused::runs::{Reader, Reference, reference_of};
+use dial9_trace_format::decoder::Decoder;
 use md5::{Digest, Md5};
 use reader_agreement::ends::Ended;
-use reader_agreement::frames::agree;
+use reader_agreement::readings::{Observed, Reading, Readings, gave_none, reads_alike};
 use std::alloc::{AllocError, Global};
 use std::env;
 use std::rt::Env;
@@ -74,7 +75,8 @@ impl Changed {
     /// Changes the trace in each way.
     fn change(&mut self, bytes: &[u8]) -> Result<(), AllocError> {
         self.cut(bytes)?;
-        self.replace(bytes)
+        self.replace(bytes, 0)?;
+        self.replace(&with_first_again(self.alloc, bytes)?, bytes.len())
     }
 
     /// Cuts the trace at every place.
@@ -85,10 +87,10 @@ impl Changed {
         Ok(())
     }
 
-    /// Puts every value in the place of every byte.
-    fn replace(&mut self, bytes: &[u8]) -> Result<(), AllocError> {
+    /// Puts every value in the place of every byte from this place on.
+    fn replace(&mut self, bytes: &[u8], from: usize) -> Result<(), AllocError> {
         let mut changed = Vec::from_slice(self.alloc, bytes)?;
-        for place in 0..bytes.len() {
+        for place in from..bytes.len() {
             self.replace_at(&mut changed, place)?;
             put(&mut changed, place, bytes[place]);
         }
@@ -122,6 +124,22 @@ impl Changed {
     }
 }
 
+/// The trace, and its first frame once more: if that is a schema, another one in its place is a conflict.
+fn with_first_again(alloc: Global, bytes: &[u8]) -> Result<Vec<u8>, AllocError> {
+    let end = end_of_first(&mut decoder_of(alloc, bytes)?);
+    let mut again = Vec::from_slice(alloc, bytes)?;
+    if let Some(first) = bytes.get(HEADER..end) {
+        again.extend_from_slice(first)?;
+    }
+    Ok(again)
+}
+
+/// The place after the first frame.
+fn end_of_first(decoder: &mut Decoder<'_>) -> usize {
+    let _ = next_owned(decoder);
+    place_of(decoder)
+}
+
 /// Puts a byte at this place, where the bytes have that.
 fn put(bytes: &mut [u8], place: usize, byte: u8) {
     if let Some(at) = bytes.get_mut(place) {
@@ -142,24 +160,26 @@ fn has_header(bytes: &[u8]) -> bool {
 }
 
 fn shown_headless(alloc: Global, bytes: &[u8], place: usize) -> Result<Shown, AllocError> {
-    let pieces = [
-        &bytes[..place.min(bytes.len())],
-        &bytes[place.min(bytes.len())..],
-    ];
+    let first = place.min(bytes.len());
+    let unread = unread_of(alloc, bytes, first)?;
     Ok(Shown {
         end: End::Headless,
         frames: 0,
         events: 0,
-        right: gives_none(alloc, pieces)? & !has_header(bytes),
+        right: gave_none(first, bytes.len(), &unread) & !has_header(bytes),
     })
 }
 
 fn shown_of(alloc: Global, reference: &Reference<'_>, place: usize) -> Result<Shown, AllocError> {
+    let (bytes, owned, borrowed) = (reference.bytes, &reference.owned, &reference.borrowed);
+    let events = events_of(&borrowed.frames);
+    let observed = observed(alloc, reference, events, place)?;
+    let alike = reads_alike(alloc, bytes, owned, borrowed, events, &observed)?;
     Ok(Shown {
-        end: end_of(reference.bytes, &reference.owned.ended),
-        frames: reference.owned.frames.len(),
+        end: end_of(bytes, &owned.ended),
+        frames: owned.frames.len(),
         events: reference.events.len(),
-        right: reads_alike(alloc, reference, place)? & has_header(reference.bytes),
+        right: alike & has_header(bytes),
     })
 }
 
@@ -174,62 +194,54 @@ fn end_of(bytes: &[u8], ended: &Ended) -> End {
     }
 }
 
-/// Whether all readers of a trace give the same, fed in two pieces cut at this place too.
-fn reads_alike(alloc: Global, reference: &Reference<'_>, place: usize) -> Result<bool, AllocError> {
-    let wanted = Wanted {
-        bytes: reference.bytes,
-        events: events_of(&reference.borrowed.frames),
-        ended: reference.borrowed.ended,
-    };
-    let same = agree(alloc, &reference.owned, &reference.borrowed)?;
-    let fed = gives_fed(alloc, reference, place);
-    let read = gives_all(alloc, reference, wanted.events);
-    let shown = wanted.is_shown(alloc, false)? & wanted.is_shown(alloc, true)?;
-    Ok(same & fed & read & shown)
+/// What all readers but those of frames give of a trace, fed in two pieces cut at this place too.
+fn observed(
+    alloc: Global,
+    reference: &Reference<'_>,
+    events: usize,
+    place: usize,
+) -> Result<Observed, AllocError> {
+    let readings = readings_of(alloc, reference)?;
+    let taking = showing_of(alloc, reference.bytes, events, false)?;
+    let refusing = showing_of(alloc, reference.bytes, events, true)?;
+    Ok(Observed {
+        fed: fed_of(alloc, reference.bytes, place)?,
+        readings,
+        taking,
+        refusing,
+    })
 }
 
-/// Whether readers that give many frames, and iterators, give these, end so, and give no more.
-fn gives_all(alloc: Global, reference: &Reference<'_>, events: usize) -> bool {
-    let (owned, borrowed) = (&reference.owned, &reference.borrowed);
-    let whole = run_of(owned.frames.len(), None);
-    let mut right = gives(alloc, reference, Reader::AllOwned, whole, owned.ended.place);
-    let place = borrowed.ended.place;
-    let whole = run_of(borrowed.frames.len(), None);
-    right &= gives(alloc, reference, Reader::AllBorrowed, whole, place);
-    let whole = run_of(borrowed.frames.len(), borrowed.ended.error);
-    right &= gives(alloc, reference, Reader::Frames, whole, place);
-    let whole = run_of(events, borrowed.ended.error);
-    right & gives(alloc, reference, Reader::Events, whole, place)
+/// What readers of many frames, and iterators, give.
+fn readings_of(alloc: Global, reference: &Reference<'_>) -> Result<Readings, AllocError> {
+    Ok(Readings {
+        all_owned: reading_of(alloc, reference, Reader::AllOwned)?,
+        all_borrowed: reading_of(alloc, reference, Reader::AllBorrowed)?,
+        frames: reading_of(alloc, reference, Reader::Frames)?,
+        events: reading_of(alloc, reference, Reader::Events)?,
+    })
 }
 
-fn run_of(given: usize, error: Option<DecodeError>) -> Run {
-    Run {
-        given,
-        same: true,
-        error,
-    }
-}
-
-/// Whether a reader gives what it should, and stands at this place then.
-fn gives(
+fn reading_of(
     alloc: Global,
     reference: &Reference<'_>,
     reader: Reader,
-    whole: Run,
-    place: usize,
-) -> bool {
-    match decoder_of(alloc, reference.bytes) {
-        Ok(mut decoder) => {
-            let run = reference.run(reader, &mut decoder);
-            let ended = is_ended(reader, &mut decoder);
-            run.same & run.is_as(&whole) & ended & (place_of(&decoder) == place)
-        }
-        Err(_) => false,
+) -> Result<Reading, AllocError> {
+    let mut decoder = decoder_of(alloc, reference.bytes)?;
+    Ok(reading_by(reference, reader, &mut decoder))
+}
+
+fn reading_by<'b>(reference: &Reference<'b>, reader: Reader, decoder: &mut Decoder<'b>) -> Reading {
+    let run = reference.run(reader, decoder);
+    Reading {
+        run,
+        over: is_over(reader, decoder),
+        place: place_of(decoder),
     }
 }
 
 /// Whether an iterator that ended gives no more.
-fn is_ended(reader: Reader, decoder: &mut Decoder<'_>) -> bool {
+fn is_over(reader: Reader, decoder: &mut Decoder<'_>) -> bool {
     match reader {
         Reader::Frames | Reader::Events => step(decoder).is_none(),
         _ => true,

@@ -18,7 +18,7 @@ pub fn events_of(frames: &[DecodedFrameRef<'_>]) -> usize {
 }
 
 /// Nothing was read.
-const NOTHING: Ended = Ended {
+pub const NOTHING: Ended = Ended {
     error: None,
     place: 0,
 };

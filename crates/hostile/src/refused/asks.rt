@@ -1,5 +1,6 @@
 //! Calls of an encoder, and what they answer.
 
+use crate::refused::known::{Known, make_known};
 use dial9_trace_format::encoder::{Call, Encoder, Reply};
 use dial9_trace_format::leb128::{EncodeError, TraceWrite};
 use std::alloc::{AllocError, Global};
@@ -25,6 +26,8 @@ pub enum Ask {
     Stacks(Stacks),
     Texts(Texts),
     Wide(Wide),
+    /// An event of what is known.
+    Known(Known),
     /// `flush`.
     Flush,
 }
@@ -62,6 +65,7 @@ pub fn make<W: TraceWrite + Drop>(encoder: &mut Encoder<W>, ask: &Ask) -> Reply 
         Ask::Stacks(event) => done(encoder.write(event)),
         Ask::Texts(event) => done(encoder.write(event)),
         Ask::Wide(event) => done(encoder.write(event)),
+        Ask::Known(known) => done(make_known(encoder, known)),
         Ask::Flush => done(encoder.flush()),
     }
 }

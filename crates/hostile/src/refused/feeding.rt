@@ -4,11 +4,12 @@ use crate::calls::feed;
 use crate::refused::before::{Stood, Tables, what_stood};
 use crate::refused::heap::{refuse, was_refused};
 use crate::refused::reading::is_told;
-use crate::refused::runs::{Reference, Run};
+use crate::refused::runs::{Reference, answer_of};
 use crate::refused::sweep::Trial;
 use crate::refused::verdict::Seen;
 use dial9_trace_format::decoder::{DecodeError, DecodedFrame, FeedDecoder};
 use reader_agreement::ends::is_same_error;
+use reader_agreement::runs::Run;
 use std::alloc::Global;
 
 /// By which calls it is fed.
@@ -94,7 +95,7 @@ impl Trial for Feeding<'_, '_> {
         let refused = was_refused(alloc);
         Seen {
             refused,
-            answer: run.answer(&whole),
+            answer: answer_of(&run, &whole),
             right: self.is_right(alloc, &run, &mut decoder),
         }
     }

@@ -6,13 +6,14 @@ use crate::calls::{
 };
 use crate::refused::before::{Stood, Tables, what_stood};
 use crate::refused::heap::{refuse, was_refused};
-use crate::refused::runs::{Reader, Reference, Run};
+use crate::refused::runs::{Reader, Reference, answer_of};
 use crate::refused::sweep::{LACKING, Trial};
 use crate::refused::verdict::Seen;
 use dial9_trace_format::decoder::{DecodeError, Decoder, TryForEachError};
 use dial9_trace_format::leb128::EncodeError;
 use dial9_trace_format::types::{FieldValue, FieldValueRef};
 use reader_agreement::ends::is_same_error;
+use reader_agreement::runs::Run;
 use std::alloc::Global;
 
 /// A trace that a reader reads.
@@ -42,7 +43,7 @@ impl<'b> Reading<'_, 'b> {
         let no_encoder = run.want_of_memory().is_none() || makes_no_encoder(alloc, decoder);
         Seen {
             refused,
-            answer: run.answer(&self.whole),
+            answer: answer_of(&run, &self.whole),
             right: right & no_encoder,
         }
     }

@@ -8,17 +8,16 @@ use dial9_trace_format::decoder::{DecodedFrame, EventSink, FeedDecoder, RawEvent
 use dial9_trace_format::resolve::ResolvedEvent;
 use std::alloc::{AllocError, Global};
 
-/// Whether an answer is the one that is wanted. `AllocError` where it tells want of memory, which that does not.
+/// Whether an answer is the one that is wanted, which is no want of memory: when it was given, nothing was refused.
+/// `AllocError` where the answer tells want of memory.
 fn is_answer(
     answer: &Result<Option<ResolvedEvent>, DeserError>,
     wanted: &Result<Option<ResolvedEvent>, DeserError>,
 ) -> Result<bool, AllocError> {
-    if *answer == *wanted {
-        return Ok(true);
-    }
-    match answer {
-        Err(DeserError::OutOfMemory) => Err(AllocError),
-        _ => Ok(false),
+    match (answer, wanted) {
+        (_, Err(DeserError::OutOfMemory)) => Ok(false),
+        (Err(DeserError::OutOfMemory), _) => Err(AllocError),
+        _ => Ok(*answer == *wanted),
     }
 }
 

@@ -7,13 +7,13 @@ use crate::calls::{
 use crate::changed::reading::{read_borrowed, read_owned};
 use crate::refused::verdict::Answer;
 use dial9_trace_format::decoder::{
-    DecodeError, DecodeErrorKind, DecodedFrame, DecodedFrameRef, Decoder, EventSink, EventVisitor,
-    RawEvent, TryForEachError,
+    DecodeError, DecodedFrame, DecodedFrameRef, Decoder, EventSink, EventVisitor, RawEvent,
+    TryForEachError,
 };
 use dial9_trace_format::types::{FieldValue, FieldValueRef};
-use reader_agreement::ends::is_same_end;
 use reader_agreement::events::{is_event, is_event_ref, is_shown};
 use reader_agreement::frames::{Borrowed, Owned};
+use reader_agreement::runs::Run;
 use std::alloc::{AllocError, Global};
 
 /// A reader of a whole trace.
@@ -102,66 +102,14 @@ fn indexes_of_events(alloc: Global, frames: &[DecodedFrame]) -> Result<Vec<usize
     Ok(indexes)
 }
 
-/// What a reader gave up to its end.
-#[derive(Clone, Copy)]
-pub struct Run {
-    /// How many frames, or events.
-    pub given: usize,
-    /// Whether they are those of the reference, in order, and nothing comes after an error.
-    pub same: bool,
-    /// The error by which it ended, if it did.
-    pub error: Option<DecodeError>,
-}
-
-impl Run {
-    /// Nothing was given.
-    pub fn new() -> Run {
-        Run {
-            given: 0,
-            same: true,
-            error: None,
-        }
-    }
-
-    /// One more was given, which is that of the reference or not.
-    pub fn give(&mut self, same: bool) {
-        self.given = self.given.saturating_add(1);
-        self.same &= same & self.error.is_none();
-    }
-
-    /// The run met this error, and none before.
-    pub fn fail(&mut self, error: DecodeError) {
-        self.same &= self.error.is_none();
-        self.error = Some(error);
-    }
-
-    /// The run that ended so.
-    fn ended(self, error: Option<DecodeError>) -> Run {
-        Run { error, ..self }
-    }
-
-    /// The error by which it ended, if that tells want of memory.
-    pub fn want_of_memory(&self) -> Option<DecodeError> {
-        match self.error {
-            Some(error) if error.kind == DecodeErrorKind::OutOfMemory => Some(error),
-            _ => None,
-        }
-    }
-
-    /// Whether it gave as many as another, and ended as that one.
-    pub fn is_as(&self, other: &Run) -> bool {
-        self.given == other.given && is_same_end(&self.error, &other.error)
-    }
-
-    /// The answer, beside that of a run that met no refusal.
-    pub fn answer(&self, whole: &Run) -> Answer {
-        if self.want_of_memory().is_some() {
-            Answer::Memory
-        } else if self.is_as(whole) {
-            Answer::Same
-        } else {
-            Answer::Other
-        }
+/// The answer of a run, beside that of one that met no refusal.
+pub fn answer_of(run: &Run, whole: &Run) -> Answer {
+    if run.want_of_memory().is_some() {
+        Answer::Memory
+    } else if run.is_as(whole) {
+        Answer::Same
+    } else {
+        Answer::Other
     }
 }
 

@@ -2,6 +2,7 @@
 
 use crate::calls::{all_owned, decoder_of};
 use crate::refused::asks::{Ask, asks_of};
+use crate::refused::causes::sweep_causes;
 use crate::refused::copies::{sweep_frame, sweep_ref};
 use crate::refused::dumping::{DUMPS, Dump, dump_of};
 use crate::refused::encoding::{Hashing, InArray, InList, Turn, turn_of};
@@ -10,6 +11,7 @@ use crate::refused::feeding::{Feeding, Form};
 use crate::refused::free::{
     OfEncoders, OfRegistries, sweep_decoders, sweep_events, sweep_free_values,
 };
+use crate::refused::known::{Again, events_again};
 use crate::refused::lists::list_of;
 use crate::refused::parts::{NewEncoder, sweep_registry, sweep_type};
 use crate::refused::plan::{Plan, plan_of};
@@ -17,13 +19,14 @@ use crate::refused::reading::Reading;
 use crate::refused::resolving::{sweep_fed, sweep_shown};
 use crate::refused::resuming::after_trace;
 use crate::refused::rows::sweep_row;
-use crate::refused::runs::{READERS, Reader, Reference, Run, reference_of};
+use crate::refused::runs::{READERS, Reader, Reference, reference_of};
 use crate::refused::samples::{SAMPLES, calls_of, nested, with_pools};
 use crate::refused::sweep::{sweep, sweep_made};
 use crate::refused::values::{sweep_value, sweep_values};
 use crate::refused::verdict::{Counts, Verdict};
 use crate::refused::written::calls_of_trace;
 use dial9_trace_format::encoder::Call;
+use reader_agreement::runs::Run;
 use std::alloc::{AllocError, Global};
 use std::hash::RandomState;
 use trace_samples::manner::ROOM;
@@ -42,12 +45,16 @@ pub struct Tallies {
     pub list: Counts,
     /// Calls of encoders, over arrays and lists, that hash by a state of the caller's.
     pub seeded: Counts,
+    /// Events of schemas and of types that are known.
+    pub known: Counts,
     /// Lists of calls.
     pub lists: Counts,
     /// Readers.
     pub readers: Counts,
     /// Decoders that are fed.
     pub fed: Counts,
+    /// Why they give no more.
+    pub causes: Counts,
     /// Dumps.
     pub dumps: Counts,
     /// Resolved events.
@@ -74,9 +81,11 @@ impl Tallies {
             array: none,
             list: none,
             seeded: none,
+            known: none,
             lists: none,
             readers: none,
             fed: none,
+            causes: none,
             dumps: none,
             resolved: none,
             resumed: none,
@@ -91,6 +100,7 @@ impl Tallies {
     pub fn try_samples(&mut self, alloc: Global) -> Result<(), AllocError> {
         sweep_row(alloc, &mut self.row)?;
         self.try_events(alloc)?;
+        self.try_known(alloc)?;
         for sample in SAMPLES {
             self.try_calls(alloc, calls_of(alloc, *sample)?)?;
         }
@@ -107,6 +117,21 @@ impl Tallies {
         let mut types = Vec::new(alloc);
         push_types_that_own(alloc, &mut types)?;
         self.try_asks(alloc, types)
+    }
+
+    /// Tries events of what is known. Their bytes are those of the calls that look whether it is.
+    fn try_known(&mut self, alloc: Global) -> Result<(), AllocError> {
+        let looking = plan_of(alloc, events_again(alloc, Again::Looking)?)?;
+        let known = plan_of(alloc, events_again(alloc, Again::Known)?)?;
+        if known.bytes != looking.bytes {
+            self.known.add(Verdict::Wrong);
+        }
+        for index in 0..known.calls.len() {
+            if let Some(turn) = turn_of(&known, index, Hashing::Fixed) {
+                try_both(alloc, turn, &mut self.known);
+            }
+        }
+        Ok(())
     }
 
     /// Tries a value that holds others.
@@ -170,7 +195,7 @@ impl Tallies {
                 try_turn(alloc, turn, &mut self.list, &mut self.array);
             }
             if let Some(turn) = turn_of(plan, index, Hashing::Seeded(self.state)) {
-                try_seeded(alloc, turn, &mut self.seeded);
+                try_both(alloc, turn, &mut self.seeded);
             }
         }
     }
@@ -197,6 +222,7 @@ impl Tallies {
         self.try_readers(alloc, reference)?;
         self.try_feeders(alloc, reference);
         self.try_frames(alloc, reference);
+        sweep_causes(alloc, bytes, &mut self.causes)?;
         sweep_shown(alloc, bytes, &mut self.resolved)?;
         sweep_fed(alloc, bytes, &mut self.resolved);
         sweep_decoders(alloc, bytes, &mut self.free)?;
@@ -305,7 +331,7 @@ fn try_turn(alloc: Global, turn: Turn<'_>, list: &mut Counts, array: &mut Counts
 }
 
 /// The same of both in one count.
-fn try_seeded(alloc: Global, turn: Turn<'_>, counts: &mut Counts) {
+fn try_both(alloc: Global, turn: Turn<'_>, counts: &mut Counts) {
     sweep(alloc, &InList(turn), counts);
     if turn.fits(ROOM) {
         sweep(alloc, &InArray(turn), counts);

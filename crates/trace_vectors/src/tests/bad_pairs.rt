@@ -3,8 +3,8 @@
 use crate::tests::calls::{all_of, decoder_of};
 use dial9_trace_format::decoder::{DecodedFrame, DecodedFrameRef};
 use dial9_trace_format::types::{FieldValue, FieldValueRef, StringMapRef};
-use std::alloc::{AllocError, Global};
-use std::test::Fail;
+use std::alloc::Global;
+use std::process::Abort;
 
 /// Header, the schema `Ev` with the field `m: StringMap`, and an event of it at 1,000 with one pair: the byte FF, and
 /// `v`.
@@ -49,24 +49,24 @@ fn is_raw(map: &StringMapRef<'_>) -> bool {
 }
 
 /// The frame's one value is such a map, and `to_owned` of the frame and of the value has no pair.
-fn is_owned_without(alloc: Global, frame: &DecodedFrameRef<'_>) -> Result<bool, AllocError> {
-    let owned = frame.to_owned(alloc)?;
+fn is_owned_without(rt: &impl Abort, alloc: Global, frame: &DecodedFrameRef<'_>) -> bool {
+    let owned = frame.to_owned(alloc).expect(rt, "memory");
     match frame {
         DecodedFrameRef::Event { values, .. } => {
-            Ok(has_pairs(Some(&owned), &[]) && has_none(alloc, values)?)
+            has_pairs(Some(&owned), &[]) && has_none(rt, alloc, values)
         }
-        _ => Ok(false),
+        _ => false,
     }
 }
 
 /// The values are one such map, and `to_owned` of it has no pair.
-fn has_none(alloc: Global, values: &[FieldValueRef<'_>]) -> Result<bool, AllocError> {
+fn has_none(rt: &impl Abort, alloc: Global, values: &[FieldValueRef<'_>]) -> bool {
     match values {
         [value] => {
-            let owned = value.to_owned(alloc)?;
-            Ok(is_raw_value(value) && are_pairs(&[owned], &[]))
+            let owned = value.to_owned(alloc).expect(rt, "memory");
+            is_raw_value(value) && are_pairs(&[owned], &[])
         }
-        _ => Ok(false),
+        _ => false,
     }
 }
 
@@ -78,18 +78,16 @@ fn is_raw_value(value: &FieldValueRef<'_>) -> bool {
 }
 
 #[test]
-fn a_pair_that_is_no_text_to_the_reader_of_owned_values(rt: HostRuntime) -> Result<(), Fail> {
-    let frames = all_of(rt.alloc(), &BAD_KEY)?;
+fn a_pair_that_is_no_text_to_the_reader_of_owned_values(rt: HostRuntime) {
+    let frames = all_of(&rt, rt.alloc(), &BAD_KEY);
     assert!(rt; frames.len() == 2);
     assert!(rt; has_pairs(frames.get(1), &[(b"\xFF", b"v")]));
-    Ok(())
 }
 
 #[test]
-fn a_pair_that_is_no_text_to_the_reader_of_borrowed_values(rt: HostRuntime) -> Result<(), Fail> {
-    let mut decoder = decoder_of(rt.alloc(), &BAD_KEY)?;
-    let frames = decoder.decode_all_ref()?;
+fn a_pair_that_is_no_text_to_the_reader_of_borrowed_values(rt: HostRuntime) {
+    let mut decoder = decoder_of(&rt, rt.alloc(), &BAD_KEY);
+    let frames = decoder.decode_all_ref().expect(&rt, "frames");
     assert!(rt; frames.len() == 2 && decoder.position() == BAD_KEY.len());
-    assert!(rt; is_owned_without(rt.alloc(), &frames[1])?);
-    Ok(())
+    assert!(rt; is_owned_without(&rt, rt.alloc(), &frames[1]));
 }

@@ -4,46 +4,13 @@ use dial9_trace_format::TraceEvent;
 use dial9_trace_format::decoder::{DecodedFrame, Decoder};
 use dial9_trace_format::encoder::{Call, Encoder, Reply, Schema, run_calls};
 use dial9_trace_format::leb128::EncodeError;
-use dial9_trace_format::schema::FieldDef;
-use dial9_trace_format::types::{FieldValue, InternedStackFrames, InternedString};
-use std::alloc::{AllocError, Global};
-use std::test::Fail;
+use dial9_trace_format::types::FieldValue;
+use std::alloc::Global;
+use std::process::Abort;
 
 /// `Encoder::new`.
-pub fn fresh(alloc: Global) -> Result<Encoder, EncodeError> {
-    Encoder::new(alloc)
-}
-
-/// `Encoder::intern_string`.
-pub fn intern(encoder: &mut Encoder, text: &str) -> Result<InternedString, EncodeError> {
-    encoder.intern_string(text)
-}
-
-/// `Encoder::intern_stack_frames`.
-pub fn intern_stack(
-    encoder: &mut Encoder,
-    addresses: &[u64],
-) -> Result<InternedStackFrames, EncodeError> {
-    encoder.intern_stack_frames(addresses)
-}
-
-/// `Encoder::register_schema`.
-pub fn register_new(
-    encoder: &mut Encoder,
-    name: &str,
-    fields: Vec<FieldDef>,
-) -> Result<Schema, EncodeError> {
-    encoder.register_schema(name, fields)
-}
-
-/// `Encoder::write_event`.
-pub fn put_event(
-    encoder: &mut Encoder,
-    schema: &Schema,
-    time: u64,
-    values: &[FieldValue],
-) -> Result<(), EncodeError> {
-    encoder.write_event(schema, time, values)
+pub fn fresh(rt: &impl Abort, alloc: Global) -> Encoder {
+    Encoder::new(alloc).expect(rt, "no refusal")
 }
 
 /// `Encoder::write`.
@@ -53,55 +20,60 @@ pub fn put<T: TraceEvent>(encoder: &mut Encoder, event: &T) -> Result<(), Encode
 
 /// `Encoder::write_event`, of an event of one value.
 pub fn put_one(
+    rt: &impl Abort,
     encoder: &mut Encoder,
     schema: &Schema,
     time: u64,
     value: FieldValue,
-) -> Result<(), EncodeError> {
-    encoder.write_event(schema, time, &[value])
+) {
+    encoder
+        .write_event(schema, time, &[value])
+        .expect(rt, "no refusal")
 }
 
 /// `run_calls`.
-pub fn run(alloc: Global, encoder: &mut Encoder, calls: &[Call]) -> Result<Vec<Reply>, AllocError> {
-    run_calls(alloc, encoder, calls)
+pub fn run(rt: &impl Abort, alloc: Global, encoder: &mut Encoder, calls: &[Call]) -> Vec<Reply> {
+    run_calls(alloc, encoder, calls).expect(rt, "no refusal")
 }
 
 /// `Decoder::new`, of bytes that begin with a header.
-pub fn decoder_of(alloc: Global, bytes: &[u8]) -> Result<Decoder<'_>, Fail> {
-    Ok(Decoder::new(alloc, bytes).ok_or("no header")?)
+pub fn decoder_of<'a>(rt: &impl Abort, alloc: Global, bytes: &'a [u8]) -> Decoder<'a> {
+    Decoder::new(alloc, bytes).expect(rt, "a header")
 }
 
 /// `Decoder::next_frame`.
-pub fn next(decoder: &mut Decoder<'_>) -> Result<Option<DecodedFrame>, Fail> {
-    Ok(decoder.next_frame()?)
+pub fn next(rt: &impl Abort, decoder: &mut Decoder<'_>) -> Option<DecodedFrame> {
+    decoder.next_frame().expect(rt, "frames")
 }
 
 /// `Decoder::decode_all`.
-pub fn all(decoder: &mut Decoder<'_>) -> Result<Vec<DecodedFrame>, Fail> {
-    Ok(decoder.decode_all()?)
+pub fn all(rt: &impl Abort, decoder: &mut Decoder<'_>) -> Vec<DecodedFrame> {
+    decoder.decode_all().expect(rt, "frames")
 }
 
 /// `Decoder::decode_all` of a new decoder.
-pub fn all_of(alloc: Global, bytes: &[u8]) -> Result<Vec<DecodedFrame>, Fail> {
-    let mut decoder = decoder_of(alloc, bytes)?;
-    all(&mut decoder)
+pub fn all_of(rt: &impl Abort, alloc: Global, bytes: &[u8]) -> Vec<DecodedFrame> {
+    let mut decoder = decoder_of(rt, alloc, bytes);
+    all(rt, &mut decoder)
 }
 
 /// A decoder that gave all frames.
-pub fn read_out(alloc: Global, bytes: &[u8]) -> Result<Decoder<'_>, Fail> {
-    let mut decoder = decoder_of(alloc, bytes)?;
-    let _frames = all(&mut decoder)?;
-    Ok(decoder)
+pub fn read_out<'a>(rt: &impl Abort, alloc: Global, bytes: &'a [u8]) -> Decoder<'a> {
+    let mut decoder = decoder_of(rt, alloc, bytes);
+    let _frames = all(rt, &mut decoder);
+    decoder
 }
 
 /// `Decoder::into_encoder`, over a new vector.
-pub fn into_encoder(alloc: Global, decoder: Decoder<'_>) -> Result<Encoder, EncodeError> {
-    decoder.into_encoder(Vec::new(alloc))
+pub fn into_encoder(rt: &impl Abort, alloc: Global, decoder: Decoder<'_>) -> Encoder {
+    decoder
+        .into_encoder(Vec::new(alloc))
+        .expect(rt, "no refusal")
 }
 
 /// `FieldValue::encode`, into a new vector.
-pub fn encoded(alloc: Global, value: &FieldValue) -> Result<Vec<u8>, EncodeError> {
+pub fn encoded(rt: &impl Abort, alloc: Global, value: &FieldValue) -> Vec<u8> {
     let mut out = Vec::new(alloc);
-    value.encode(alloc, &mut out)?;
-    Ok(out)
+    value.encode(alloc, &mut out).expect(rt, "no refusal");
+    out
 }

@@ -3,33 +3,21 @@
 
 use crate::tests::calls::{all, decoder_of};
 use dial9_trace_format::decoder::Decoder;
-use dial9_trace_format::leb128::EncodeError;
 use std::alloc::Global;
 use std::process::Abort;
-use std::test::Fail;
-
-/// The number is this one.
-pub fn check_number(rt: &impl Abort, found: u64, wanted: u64) {
-    assert!(rt; found == wanted);
-}
 
 /// The bytes are these.
 pub fn check_bytes(rt: &impl Abort, found: &[u8], wanted: &[u8]) {
     assert!(rt; found == wanted);
 }
 
-/// The call was refused by this fault.
-pub fn check_refused(rt: &impl Abort, found: Option<EncodeError>, wanted: EncodeError) {
-    assert!(rt; found == Some(wanted));
-}
-
 /// How many frames `decode_all` gives.
-pub fn count_all(decoder: &mut Decoder<'_>) -> Result<usize, Fail> {
-    Ok(all(decoder)?.len())
+pub fn count_all(rt: &impl Abort, decoder: &mut Decoder<'_>) -> usize {
+    all(rt, decoder).len()
 }
 
 /// `decode_all` gives so many frames, and the place is then this one.
-pub fn reads_all(alloc: Global, bytes: &[u8], count: usize, place: usize) -> Result<bool, Fail> {
-    let mut decoder = decoder_of(alloc, bytes)?;
-    Ok(count_all(&mut decoder)? == count && decoder.position() == place)
+pub fn reads_all(rt: &impl Abort, alloc: Global, bytes: &[u8], count: usize, place: usize) -> bool {
+    let mut decoder = decoder_of(rt, alloc, bytes);
+    count_all(rt, &mut decoder) == count && decoder.position() == place
 }

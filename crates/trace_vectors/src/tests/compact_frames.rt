@@ -2,7 +2,7 @@
 
 use crate::tests::traces::ONE_EVENT;
 use dial9_trace_format::decoder::{CompactEntry, CompactFrame, DecodedFrame, FeedDecoder};
-use std::test::Fail;
+use std::process::Abort;
 
 /// A header, and the texts of three ids: no byte, one that is no text, and 24.
 const TEXTS: [u8; 59] = [
@@ -30,30 +30,31 @@ fn are_texts(entries: &[CompactEntry]) -> bool {
 }
 
 /// The next frame is the string pool of `TEXTS`.
-fn gives_texts(decoder: &mut FeedDecoder) -> Result<bool, Fail> {
-    match decoder.next_compact()? {
-        Some(CompactFrame::StringPool(entries)) => Ok(are_texts(&entries)),
-        _ => Ok(false),
+fn gives_texts(rt: &impl Abort, decoder: &mut FeedDecoder) -> bool {
+    match decoder.next_compact().expect(rt, "no refusal") {
+        Some(CompactFrame::StringPool(entries)) => are_texts(&entries),
+        _ => false,
     }
 }
 
 #[test]
-fn texts_come_once_they_are_whole(rt: HostRuntime) -> Result<(), Fail> {
+fn texts_come_once_they_are_whole(rt: HostRuntime) {
     let mut decoder = FeedDecoder::new(rt.alloc());
     for byte in TEXTS {
-        assert!(rt; decoder.next_compact()?.is_none());
-        decoder.push(&[byte])?;
+        assert!(rt; decoder.next_compact().expect(&rt, "no refusal").is_none());
+        decoder.push(&[byte]).expect(&rt, "bytes that are taken");
     }
-    assert!(rt; gives_texts(&mut decoder)?);
-    assert!(rt; decoder.position() == TEXTS.len() && decoder.next_compact()?.is_none());
-    Ok(())
+    assert!(rt; gives_texts(&rt, &mut decoder));
+    assert!(rt;
+        decoder.position() == TEXTS.len()
+            && decoder.next_compact().expect(&rt, "no refusal").is_none()
+    );
 }
 
 #[test]
-fn other_frames_come_as_they_are(rt: HostRuntime) -> Result<(), Fail> {
+fn other_frames_come_as_they_are(rt: HostRuntime) {
     let mut decoder = FeedDecoder::new(rt.alloc());
-    decoder.push(&ONE_EVENT)?;
-    let frame = decoder.next_compact()?;
+    decoder.push(&ONE_EVENT).expect(&rt, "bytes that are taken");
+    let frame = decoder.next_compact().expect(&rt, "no refusal");
     assert!(rt; matches!(frame, Some(CompactFrame::Other(DecodedFrame::Schema(_)))));
-    Ok(())
 }

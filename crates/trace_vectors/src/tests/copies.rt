@@ -3,8 +3,8 @@
 use crate::tests::ample::read_value;
 use dial9_trace_format::schema::{FieldAnnotation, FieldDef, SchemaEntry};
 use dial9_trace_format::types::FieldType;
-use std::alloc::{AllocError, Global};
-use std::test::Fail;
+use std::alloc::Global;
+use std::process::Abort;
 
 /// The annotation is `unit` and `ns` of field 7.
 fn is_unit(annotation: &FieldAnnotation) -> bool {
@@ -36,29 +36,32 @@ fn is_ev(entry: &SchemaEntry, count: usize) -> bool {
 
 /// The copy of the entry is equal to it until it has one annotation more.
 fn is_copied(
+    rt: &impl Abort,
     alloc: Global,
     entry: &SchemaEntry,
     annotations: &[FieldAnnotation],
-) -> Result<bool, AllocError> {
-    let mut copy = entry.clone(alloc)?;
+) -> bool {
+    let mut copy = entry.clone(alloc).expect(rt, "memory");
     let is_equal = is_ev(&copy, 1) && copy == *entry;
-    copy.push_annotation_copies(alloc, annotations)?;
-    Ok(is_equal && is_ev(&copy, 2) && copy != *entry)
+    copy.push_annotation_copies(alloc, annotations)
+        .expect(rt, "memory");
+    is_equal && is_ev(&copy, 2) && copy != *entry
 }
 
 /// The entry of this field and this annotation is that, and its copy too.
-fn are_copied(alloc: Global, field: FieldDef, unit: FieldAnnotation) -> Result<bool, AllocError> {
+fn are_copied(rt: &impl Abort, alloc: Global, field: FieldDef, unit: FieldAnnotation) -> bool {
     let annotations = [unit];
-    let entry = SchemaEntry::with_annotations(alloc, "Ev", &[field], &annotations)?;
-    Ok(is_ev(&entry, 1) && is_copied(alloc, &entry, &annotations)?)
+    let entry = SchemaEntry::with_annotations(alloc, "Ev", &[field], &annotations).expect(
+        rt, "memory",
+    );
+    is_ev(&entry, 1) && is_copied(rt, alloc, &entry, &annotations)
 }
 
 #[test]
-fn copied_entry(rt: HostRuntime) -> Result<(), Fail> {
-    let field = FieldDef::new(rt.alloc(), "v", FieldType::Varint)?;
-    let unit = FieldAnnotation::new(rt.alloc(), 7, "unit", "ns")?;
-    assert!(rt; are_copied(rt.alloc(), field, unit)?);
-    Ok(())
+fn copied_entry(rt: HostRuntime) {
+    let field = FieldDef::new(rt.alloc(), "v", FieldType::Varint).expect(&rt, "memory");
+    let unit = FieldAnnotation::new(rt.alloc(), 7, "unit", "ns").expect(&rt, "memory");
+    assert!(rt; are_copied(&rt, rt.alloc(), field, unit));
 }
 
 /// The spellings of a map of two texts under two, and of a map of two pairs of numbers, the last of which is absent.
@@ -76,16 +79,15 @@ const MAPS: [(FieldType, &[u8]); 2] = [
 ];
 
 /// The copy of a map is equal to it, and has both pairs.
-fn is_map_copied(alloc: Global, field_type: FieldType, bytes: &[u8]) -> Result<bool, Fail> {
-    let map = read_value(alloc, field_type, bytes)?;
-    let copy = map.clone(alloc)?;
-    Ok(copy == map && copy == read_value(alloc, field_type, bytes)?)
+fn is_map_copied(rt: &impl Abort, alloc: Global, field_type: FieldType, bytes: &[u8]) -> bool {
+    let map = read_value(rt, alloc, field_type, bytes);
+    let copy = map.clone(alloc).expect(rt, "memory");
+    copy == map && copy == read_value(rt, alloc, field_type, bytes)
 }
 
 #[test]
-fn copied_maps(rt: HostRuntime) -> Result<(), Fail> {
+fn copied_maps(rt: HostRuntime) {
     for (field_type, bytes) in MAPS {
-        assert!(rt; is_map_copied(rt.alloc(), field_type, bytes)?);
+        assert!(rt; is_map_copied(&rt, rt.alloc(), field_type, bytes));
     }
-    Ok(())
 }

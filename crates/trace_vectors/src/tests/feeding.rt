@@ -4,15 +4,19 @@ use crate::tests::ample::fed::{is_fed, is_pulled};
 use crate::tests::calls::{all_of, decoder_of, next};
 use crate::tests::traces::{CONFLICT, HEADER, ONE_EVENT, THREE_EVENTS};
 use dial9_trace_format::codec::WireTypeId;
-use dial9_trace_format::decoder::{
-    DecodeError, DecodeErrorKind, DecodedFrame, Decoder, FeedDecoder,
-};
-use std::alloc::{AllocError, Global};
-use std::test::Fail;
+use dial9_trace_format::decoder::{DecodeErrorKind, DecodedFrame, Decoder, FeedDecoder};
+use std::alloc::Global;
+use std::process::Abort;
 
 /// So many frames were given, and the decoder is at this place.
-fn gives(feed: &mut FeedDecoder, piece: &[u8], count: usize, place: usize) -> Result<bool, Fail> {
-    Ok(feed.feed(piece)?.len() == count && feed.position() == place)
+fn gives(
+    rt: &impl Abort,
+    feed: &mut FeedDecoder,
+    piece: &[u8],
+    count: usize,
+    place: usize,
+) -> bool {
+    feed.feed(piece).expect(rt, "frames").len() == count && feed.position() == place
 }
 
 /// The decoder has failed by this kind, here.
@@ -48,97 +52,92 @@ const PIECES: [(&[u8], usize, usize); 6] = [
 ];
 
 #[test]
-fn one_event_in_pieces(rt: HostRuntime) -> Result<(), Fail> {
+fn one_event_in_pieces(rt: HostRuntime) {
     let mut feed = FeedDecoder::new(rt.alloc());
     for (piece, count, place) in PIECES {
-        assert!(rt; gives(&mut feed, piece, count, place)?);
+        assert!(rt; gives(&rt, &mut feed, piece, count, place));
         assert!(rt; feed.version() == if place == 0 { None } else { Some(1) });
     }
     assert!(rt; feed.fed_len() == 26);
-    Ok(())
 }
 
 /// How many frames are given of bytes one by one.
-fn count_one_by_one(feed: &mut FeedDecoder, bytes: &[u8]) -> Result<usize, DecodeError> {
+fn count_one_by_one(rt: &impl Abort, feed: &mut FeedDecoder, bytes: &[u8]) -> usize {
     let mut count: usize = 0;
     for piece in bytes.chunks(1) {
-        count = count.saturating_add(feed.feed(piece)?.len());
+        count = count.saturating_add(feed.feed(piece).expect(rt, "frames").len());
     }
-    Ok(count)
+    count
 }
 
 #[test]
-fn conflict_one_by_one(rt: HostRuntime) -> Result<(), Fail> {
+fn conflict_one_by_one(rt: HostRuntime) {
     let mut feed = FeedDecoder::new(rt.alloc());
-    assert!(rt; count_one_by_one(&mut feed, &CONFLICT)? == 2);
+    assert!(rt; count_one_by_one(&rt, &mut feed, &CONFLICT) == 2);
     assert!(rt; has_failed(&feed, DecodeErrorKind::Conflict(WireTypeId(256)), 40));
     assert!(rt;
         is_refused(&mut feed, &[], DecodeErrorKind::Conflict(WireTypeId(256)))
             && feed.fed_len() == 40
     );
-    Ok(())
 }
 
 #[test]
-fn no_header(rt: HostRuntime) -> Result<(), Fail> {
+fn no_header(rt: HostRuntime) {
     let mut feed = FeedDecoder::new(rt.alloc());
     assert!(rt; is_refused(&mut feed, &[0, 0, 0, 0, 1], DecodeErrorKind::NoHeader));
     assert!(rt; has_failed(&feed, DecodeErrorKind::NoHeader, 0) && feed.fed_len() == 0);
-    Ok(())
 }
 
 /// Traces of one piece and more, one of which ends at a conflict.
 const TRACES: [&[u8]; 4] = [&ONE_EVENT, &THREE_EVENTS, &CONFLICT, &TWO_SCHEMAS];
 
 /// Fed or pulled in pieces of a length, the trace gives the frames that it gives at once, to its end.
-fn gives_as_many(alloc: Global, bytes: &[u8], length: usize) -> Result<bool, Fail> {
-    let frames = all_of(alloc, bytes)?;
-    Ok(is_fed(alloc, bytes, length, &frames)? && is_pulled(alloc, bytes, length, &frames)?)
+fn gives_as_many(rt: &impl Abort, alloc: Global, bytes: &[u8], length: usize) -> bool {
+    let frames = all_of(rt, alloc, bytes);
+    is_fed(rt, alloc, bytes, length, &frames) && is_pulled(rt, alloc, bytes, length, &frames)
 }
 
 #[test]
-fn in_any_pieces(rt: HostRuntime) -> Result<(), Fail> {
+fn in_any_pieces(rt: HostRuntime) {
     for bytes in TRACES {
         for length in 1..8 {
-            assert!(rt; gives_as_many(rt.alloc(), bytes, length)?);
+            assert!(rt; gives_as_many(&rt, rt.alloc(), bytes, length));
         }
     }
-    Ok(())
 }
 
 /// The trace of one event so many times, and then these bytes.
-fn repeated(alloc: Global, count: usize, rest: &[u8]) -> Result<Vec<u8>, AllocError> {
+fn repeated(rt: &impl Abort, alloc: Global, count: usize, rest: &[u8]) -> Vec<u8> {
     let mut bytes = Vec::new(alloc);
     for _ in 0..count {
-        bytes.extend_from_slice(&ONE_EVENT)?;
+        bytes.extend_from_slice(&ONE_EVENT).expect(rt, "memory");
     }
-    bytes.extend_from_slice(rest)?;
-    Ok(bytes)
+    bytes.extend_from_slice(rest).expect(rt, "memory");
+    bytes
 }
 
 /// Cut here into two pieces, the bytes give so many frames.
-fn gives_cut(alloc: Global, bytes: &[u8], cut: usize, count: usize) -> Result<bool, Fail> {
+fn gives_cut(rt: &impl Abort, alloc: Global, bytes: &[u8], cut: usize, count: usize) -> bool {
     let Some((front, rest)) = bytes.split_at_checked(cut) else {
-        return Ok(false);
+        return false;
     };
     let mut feed = FeedDecoder::new(alloc);
-    let first = feed.feed(front)?.len();
-    let second = feed.feed(rest)?.len();
-    Ok(first.saturating_add(second) == count && feed.position() == bytes.len())
+    let first = feed.feed(front).expect(rt, "frames").len();
+    let second = feed.feed(rest).expect(rt, "frames").len();
+    first.saturating_add(second) == count && feed.position() == bytes.len()
 }
 
 #[test]
-fn two_traces_cut_anywhere(rt: HostRuntime) -> Result<(), Fail> {
-    let bytes = repeated(rt.alloc(), 2, &[])?;
+fn two_traces_cut_anywhere(rt: HostRuntime) {
+    let bytes = repeated(&rt, rt.alloc(), 2, &[]);
     for cut in 0..bytes.len() {
-        assert!(rt; gives_cut(rt.alloc(), bytes.as_slice(), cut, 4)?);
+        assert!(rt; gives_cut(&rt, rt.alloc(), bytes.as_slice(), cut, 4));
     }
-    Ok(())
 }
 
 /// The trace of one event three times, and a header.
-fn three_and_a_header(alloc: Global) -> Result<Vec<u8>, AllocError> {
-    repeated(alloc, 3, &HEADER)
+fn three_and_a_header(rt: &impl Abort, alloc: Global) -> Vec<u8> {
+    repeated(rt, alloc, 3, &HEADER)
 }
 
 /// How many headers are whole in so many first bytes of these: each trace has 26.
@@ -153,8 +152,8 @@ fn headers_in(read: usize) -> u64 {
 }
 
 /// The next frame, if any, stands after so many headers.
-fn stands_after(decoder: &mut Decoder<'_>, frame: bool, headers: u64) -> Result<bool, Fail> {
-    Ok(next(decoder)?.is_some() == frame && decoder.headers() == headers)
+fn stands_after(rt: &impl Abort, decoder: &mut Decoder<'_>, frame: bool, headers: u64) -> bool {
+    next(rt, decoder).is_some() == frame && decoder.headers() == headers
 }
 
 /// Each frame with how many headers stand before it.
@@ -170,57 +169,55 @@ const FRAMES: [(bool, u64); 8] = [
 ];
 
 #[test]
-fn headers_are_counted(rt: HostRuntime) -> Result<(), Fail> {
-    let bytes = three_and_a_header(rt.alloc())?;
-    let mut decoder = decoder_of(rt.alloc(), bytes.as_slice())?;
+fn headers_are_counted(rt: HostRuntime) {
+    let bytes = three_and_a_header(&rt, rt.alloc());
+    let mut decoder = decoder_of(&rt, rt.alloc(), bytes.as_slice());
     assert!(rt; decoder.headers() == 1);
     for (frame, headers) in FRAMES {
-        assert!(rt; stands_after(&mut decoder, frame, headers)?);
+        assert!(rt; stands_after(&rt, &mut decoder, frame, headers));
     }
-    Ok(())
 }
 
 /// Fed in pieces of a length, the decoder tells after each the headers that are whole in what it was fed.
-fn counts_headers(alloc: Global, bytes: &[u8], length: usize) -> Result<bool, Fail> {
+fn counts_headers(rt: &impl Abort, alloc: Global, bytes: &[u8], length: usize) -> bool {
     let mut feed = FeedDecoder::new(alloc);
     if feed.headers() != 0 {
-        return Ok(false);
+        return false;
     }
     for piece in bytes.chunks(length.max(1)) {
-        let _frames = feed.feed(piece)?;
+        let _frames = feed.feed(piece).expect(rt, "frames");
         if feed.headers() != headers_in(feed.fed_len()) {
-            return Ok(false);
+            return false;
         }
     }
-    Ok(true)
+    true
 }
 
 /// Pushed in pieces of a length and pulled frame by frame, the decoder tells the headers before its place.
-fn pulls_headers(alloc: Global, bytes: &[u8], length: usize) -> Result<bool, Fail> {
+fn pulls_headers(rt: &impl Abort, alloc: Global, bytes: &[u8], length: usize) -> bool {
     let mut feed = FeedDecoder::new(alloc);
     for piece in bytes.chunks(length.max(1)) {
-        feed.push(piece)?;
+        feed.push(piece).expect(rt, "bytes that are taken");
         for _ in 0..bytes.len() {
-            let frame = feed.next_frame()?;
+            let frame = feed.next_frame().expect(rt, "frames");
             if feed.headers() != headers_in(feed.position()) {
-                return Ok(false);
+                return false;
             }
             if frame.is_none() {
                 break;
             }
         }
     }
-    Ok(feed.headers() == 4)
+    feed.headers() == 4
 }
 
 #[test]
-fn headers_are_counted_in_pieces(rt: HostRuntime) -> Result<(), Fail> {
-    let bytes = three_and_a_header(rt.alloc())?;
+fn headers_are_counted_in_pieces(rt: HostRuntime) {
+    let bytes = three_and_a_header(&rt, rt.alloc());
     for length in [1, 2, 3, 5, 26, 30, 31, 52, 83] {
-        assert!(rt; counts_headers(rt.alloc(), bytes.as_slice(), length)?);
-        assert!(rt; pulls_headers(rt.alloc(), bytes.as_slice(), length)?);
+        assert!(rt; counts_headers(&rt, rt.alloc(), bytes.as_slice(), length));
+        assert!(rt; pulls_headers(&rt, rt.alloc(), bytes.as_slice(), length));
     }
-    Ok(())
 }
 
 /// The trace of one event, and one whose schema of the same wire id has the field `w` of type Bool, with an event of
@@ -245,18 +242,17 @@ fn has_field(feed: &FeedDecoder, name: &str) -> bool {
 
 /// The next frame, which ends here, is an event or not, beside a schema with a field of this name.
 fn pulls_with(
+    rt: &impl Abort,
     feed: &mut FeedDecoder,
     event: bool,
     field: &str,
     place: usize,
-) -> Result<bool, Fail> {
-    match feed.next_frame()? {
-        Some(frame) => Ok(
-            matches!(frame, DecodedFrame::Event { .. }) == event
-                && has_field(feed, field)
-                && feed.position() == place,
-        ),
-        None => Ok(false),
+) -> bool {
+    match feed.next_frame().expect(rt, "frames") {
+        Some(frame) => matches!(frame, DecodedFrame::Event { .. }) == event
+            && has_field(feed, field)
+            && feed.position() == place,
+        None => false,
     }
 }
 
@@ -274,27 +270,25 @@ fn is_fresh(feed: &FeedDecoder, count: usize) -> bool {
 }
 
 #[test]
-fn frames_stand_beside_their_schemas(rt: HostRuntime) -> Result<(), Fail> {
+fn frames_stand_beside_their_schemas(rt: HostRuntime) {
     let mut feed = FeedDecoder::new(rt.alloc());
-    feed.push(&TWO_SCHEMAS)?;
+    feed.push(&TWO_SCHEMAS).expect(&rt, "bytes that are taken");
     assert!(rt; is_fresh(&feed, 52));
     for (event, field, place) in BESIDE {
-        assert!(rt; pulls_with(&mut feed, event, field, place)?);
+        assert!(rt; pulls_with(&rt, &mut feed, event, field, place));
     }
-    assert!(rt; feed.next_frame()?.is_none() && feed.version() == Some(1));
-    Ok(())
+    assert!(rt; feed.next_frame().expect(&rt, "frames").is_none() && feed.version() == Some(1));
 }
 
 #[test]
-fn a_pulled_fault_is_told_again(rt: HostRuntime) -> Result<(), Fail> {
+fn a_pulled_fault_is_told_again(rt: HostRuntime) {
     let mut feed = FeedDecoder::new(rt.alloc());
-    feed.push(&[0, 0, 0, 0])?;
-    assert!(rt; feed.next_frame()?.is_none());
-    feed.push(&[1])?;
+    feed.push(&[0, 0, 0, 0]).expect(&rt, "bytes that are taken");
+    assert!(rt; feed.next_frame().expect(&rt, "frames").is_none());
+    feed.push(&[1]).expect(&rt, "bytes that are taken");
     for _ in 0..2 {
         assert!(rt; feed.next_frame().is_err());
         assert!(rt; has_failed(&feed, DecodeErrorKind::NoHeader, 0) && feed.fed_len() == 5);
     }
     assert!(rt; feed.push(&[]).is_err());
-    Ok(())
 }

@@ -2,8 +2,8 @@
 
 use crate::tests::calls::all_of;
 use dial9_trace_format::decoder::DecodedFrame;
-use std::alloc::{AllocError, Global};
-use std::test::Fail;
+use std::alloc::Global;
+use std::process::Abort;
 
 /// Header, schema `Ev`, its annotation, an event of it at 1,000 with 42, the text `hello`, the empty stack, and pools
 /// of nothing.
@@ -27,19 +27,18 @@ fn is_equal_alone(frame: &DecodedFrame, index: usize, frames: &[DecodedFrame]) -
 }
 
 /// The copy of the frame of this index equals it, and no other.
-fn is_copied(alloc: Global, index: usize, frames: &[DecodedFrame]) -> Result<bool, AllocError> {
+fn is_copied(rt: &impl Abort, alloc: Global, index: usize, frames: &[DecodedFrame]) -> bool {
     match frames.get(index) {
-        Some(frame) => Ok(is_equal_alone(&frame.clone(alloc)?, index, frames)),
-        None => Ok(false),
+        Some(frame) => is_equal_alone(&frame.clone(alloc).expect(rt, "memory"), index, frames),
+        None => false,
     }
 }
 
 #[test]
-fn each_kind_copied(rt: HostRuntime) -> Result<(), Fail> {
-    let frames = all_of(rt.alloc(), &EACH_KIND[..76])?;
+fn each_kind_copied(rt: HostRuntime) {
+    let frames = all_of(&rt, rt.alloc(), &EACH_KIND[..76]);
     assert!(rt; frames.len() == 5);
     for index in 0..5usize {
-        assert!(rt; is_copied(rt.alloc(), index, &frames)?);
+        assert!(rt; is_copied(&rt, rt.alloc(), index, &frames));
     }
-    Ok(())
 }

@@ -3,17 +3,17 @@
 use dial9_trace_format::codec::{Step, compile};
 use dial9_trace_format::schema::FieldDef;
 use dial9_trace_format::types::FieldType;
-use std::alloc::{AllocError, Global};
-use std::test::Fail;
+use std::alloc::Global;
+use std::process::Abort;
 
 /// A field of each of these types.
-fn fields_of(alloc: Global, types: &[FieldType]) -> Result<Vec<FieldDef>, AllocError> {
+fn fields_of(rt: &impl Abort, alloc: Global, types: &[FieldType]) -> Vec<FieldDef> {
     let mut fields = Vec::new(alloc);
     for field_type in types {
-        let field = FieldDef::new(alloc, "f", *field_type)?;
-        fields.push(field)?;
+        let field = FieldDef::new(alloc, "f", *field_type).expect(rt, "memory");
+        fields.push(field).expect(rt, "memory");
     }
-    Ok(fields)
+    fields
 }
 
 /// Types of fields in a row, and their steps.
@@ -52,11 +52,10 @@ const LAYOUTS: [(&[FieldType], &[Step]); 2] = [
 ];
 
 #[test]
-fn runs_between_fields_of_open_width(rt: HostRuntime) -> Result<(), Fail> {
+fn runs_between_fields_of_open_width(rt: HostRuntime) {
     for (types, steps) in LAYOUTS {
-        let fields = fields_of(rt.alloc(), types)?;
-        let layout = compile(rt.alloc(), &fields)?;
+        let fields = fields_of(&rt, rt.alloc(), types);
+        let layout = compile(rt.alloc(), &fields).expect(&rt, "no refusal");
         assert!(rt; layout.steps() == steps);
     }
-    Ok(())
 }

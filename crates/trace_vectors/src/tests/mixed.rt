@@ -6,7 +6,7 @@ use crate::tests::traces::{CONFLICT, THREE_EVENTS};
 use dial9_trace_format::codec::WireTypeId;
 use dial9_trace_format::decoder::{DecodeError, DecodeErrorKind, Decoder};
 use std::alloc::Global;
-use std::test::Fail;
+use std::process::Abort;
 
 /// A reader of a decoder.
 #[derive(Clone, Copy)]
@@ -83,9 +83,9 @@ pub fn read(decoder: &mut Decoder<'_>, rows: &[Row]) -> bool {
 }
 
 /// A new decoder of the bytes is read so.
-fn is_read(alloc: Global, bytes: &[u8], rows: &[Row]) -> Result<bool, Fail> {
-    let mut decoder = decoder_of(alloc, bytes)?;
-    Ok(read(&mut decoder, rows))
+fn is_read(rt: &impl Abort, alloc: Global, bytes: &[u8], rows: &[Row]) -> bool {
+    let mut decoder = decoder_of(rt, alloc, bytes);
+    read(&mut decoder, rows)
 }
 
 /// The schema, and the events, one of which a sink refuses.
@@ -144,19 +144,17 @@ const TOLD_ONCE: [Row; 6] = [
 ];
 
 #[test]
-fn readers_in_turn(rt: HostRuntime) -> Result<(), Fail> {
-    assert!(rt; is_read(rt.alloc(), &THREE_EVENTS, &IN_TURN)?);
-    assert!(rt; is_read(rt.alloc(), &NO_FRAME, &BEFORE_NO_FRAME)?);
-    assert!(rt; is_read(rt.alloc(), &CONFLICT, &BEFORE_CONFLICT)?);
-    assert!(rt; is_read(rt.alloc(), &CONFLICT, &TOLD_ONCE)?);
-    Ok(())
+fn readers_in_turn(rt: HostRuntime) {
+    assert!(rt; is_read(&rt, rt.alloc(), &THREE_EVENTS, &IN_TURN));
+    assert!(rt; is_read(&rt, rt.alloc(), &NO_FRAME, &BEFORE_NO_FRAME));
+    assert!(rt; is_read(&rt, rt.alloc(), &CONFLICT, &BEFORE_CONFLICT));
+    assert!(rt; is_read(&rt, rt.alloc(), &CONFLICT, &TOLD_ONCE));
 }
 
 /// After a conflict no borrowed frames are given at once.
 #[test]
-fn none_at_once_after_a_conflict(rt: HostRuntime) -> Result<(), Fail> {
-    let mut decoder = decoder_of(rt.alloc(), &CONFLICT)?;
+fn none_at_once_after_a_conflict(rt: HostRuntime) {
+    let mut decoder = decoder_of(&rt, rt.alloc(), &CONFLICT);
     assert!(rt; read(&mut decoder, &BEFORE_CONFLICT));
-    assert!(rt; decoder.decode_all_ref()?.is_empty());
-    Ok(())
+    assert!(rt; decoder.decode_all_ref().expect(&rt, "frames").is_empty());
 }

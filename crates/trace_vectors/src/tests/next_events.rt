@@ -8,7 +8,7 @@ use dial9_trace_format::decoder::{DecodeError, DecodeErrorKind, Decoder, EventHe
 use dial9_trace_format::schema::FieldDef;
 use dial9_trace_format::types::{EventEncoder, FieldValue, FieldValueRef};
 use std::alloc::Global;
-use std::test::Fail;
+use std::process::Abort;
 
 /// Header; the schema `Ev` of wire id 256, whose fields `a` to `q` are of the fifteen plain types in the order of their
 /// tags, and two of OptionalU8; the text `seven` under 7; an event of it at 1,000; an annotation of it; a stack under
@@ -91,72 +91,74 @@ fn knows(decoder: &Decoder<'_>, known: Known) -> bool {
 }
 
 /// The values, written as the fields of this schema.
-fn written(alloc: Global, fields: &[FieldDef], values: &[FieldValue]) -> Result<Vec<u8>, Fail> {
+fn written(rt: &impl Abort, alloc: Global, fields: &[FieldDef], values: &[FieldValue]) -> Vec<u8> {
     let mut out = Vec::new(alloc);
     let mut encoder = EventEncoder::new(&mut out);
     for (value, field) in values.iter().zip(fields) {
-        encoder.write_field_value(value, field.field_type())?;
+        encoder
+            .write_field_value(value, field.field_type())
+            .expect(rt, "no refusal");
     }
-    Ok(out)
+    out
 }
 
 /// The values are those of the fields of the schema, whose bytes stand here.
 fn are_values(
+    rt: &impl Abort,
     alloc: Global,
     decoder: &Decoder<'_>,
     id: u16,
     values: &[FieldValue],
     place: (usize, usize),
-) -> Result<bool, Fail> {
+) -> bool {
     let Some(schema) = decoder.registry().get(WireTypeId(id)) else {
-        return Ok(false);
+        return false;
     };
-    let bytes = written(alloc, schema.fields(), values)?;
-    Ok(
-        values.len() == schema.fields().len()
-            && TRACE.get(place.0..place.1) == Some(bytes.as_slice()),
-    )
+    let bytes = written(rt, alloc, schema.fields(), values);
+    values.len() == schema.fields().len() && TRACE.get(place.0..place.1) == Some(bytes.as_slice())
 }
 
 /// The event comes, with its values in place of all others.
 fn gives(
+    rt: &impl Abort,
     alloc: Global,
     decoder: &mut Decoder<'_>,
     values: &mut Vec<FieldValue>,
     row: Row,
-) -> Result<bool, Fail> {
+) -> bool {
     let (id, time, headers, place, known) = row;
-    let is_next = is_head(next_owned(decoder, values)?, id, time);
+    let is_next = is_head(
+        next_owned(decoder, values).expect(rt, "no refusal"),
+        id,
+        time,
+    );
     let is_placed = Decoder::position(decoder) == place.1 && decoder.headers() == headers;
-    Ok(
-        is_next
-            && is_placed
-            && knows(decoder, known)
-            && are_values(alloc, decoder, id, values, place)?,
-    )
+    is_next
+        && is_placed
+        && knows(decoder, known)
+        && are_values(rt, alloc, decoder, id, values, place)
 }
 
 /// Then none, and the list is empty.
-fn gives_none(decoder: &mut Decoder<'_>, values: &mut Vec<FieldValue>) -> Result<bool, Fail> {
-    Ok(
-        next_owned(decoder, values)?.is_none()
-            && values.is_empty()
-            && Decoder::position(decoder) == 313,
-    )
+fn gives_none(rt: &impl Abort, decoder: &mut Decoder<'_>, values: &mut Vec<FieldValue>) -> bool {
+    next_owned(decoder, values)
+        .expect(rt, "no refusal")
+        .is_none()
+        && values.is_empty()
+        && Decoder::position(decoder) == 313
 }
 
 /// The list keeps the room that it has after the first event, which has the most values.
 #[test]
-fn values_of_each_kind_into_one_list(rt: HostRuntime) -> Result<(), Fail> {
-    let mut decoder = decoder_of(rt.alloc(), &TRACE)?;
+fn values_of_each_kind_into_one_list(rt: HostRuntime) {
+    let mut decoder = decoder_of(&rt, rt.alloc(), &TRACE);
     let mut values = Vec::new(rt.alloc());
     let mut room = 0;
     for row in EVENTS {
-        assert!(rt; gives(rt.alloc(), &mut decoder, &mut values, row)?);
+        assert!(rt; gives(&rt, rt.alloc(), &mut decoder, &mut values, row));
         room = if room == 0 { values.capacity() } else { room };
     }
-    assert!(rt; gives_none(&mut decoder, &mut values)? && values.capacity() == room);
-    Ok(())
+    assert!(rt; gives_none(&rt, &mut decoder, &mut values) && values.capacity() == room);
 }
 
 /// The answer is the conflict of wire id 256, which ends at 40.
@@ -178,43 +180,55 @@ fn shows_conflict<'a>(decoder: &mut Decoder<'a>, values: &mut Vec<FieldValueRef<
 }
 
 /// The event before the conflict comes.
-fn gives_one_event(decoder: &mut Decoder<'_>, values: &mut Vec<FieldValue>) -> Result<bool, Fail> {
-    let is_first = is_head(next_owned(decoder, values)?, 256, 1_000);
-    Ok(is_first && values.as_slice() == [FieldValue::Varint(42)].as_slice())
+fn gives_one_event(
+    rt: &impl Abort,
+    decoder: &mut Decoder<'_>,
+    values: &mut Vec<FieldValue>,
+) -> bool {
+    let is_first = is_head(
+        next_owned(decoder, values).expect(rt, "no refusal"),
+        256,
+        1_000,
+    );
+    is_first && values.as_slice() == [FieldValue::Varint(42)].as_slice()
 }
 
 /// A schema that conflicts is told each time, and the list is empty then, whatever stood in it.
 #[test]
-fn no_values_at_a_conflict(rt: HostRuntime) -> Result<(), Fail> {
-    let mut decoder = decoder_of(rt.alloc(), &CONFLICT)?;
+fn no_values_at_a_conflict(rt: HostRuntime) {
+    let mut decoder = decoder_of(&rt, rt.alloc(), &CONFLICT);
     let mut values = Vec::new(rt.alloc());
-    assert!(rt; gives_one_event(&mut decoder, &mut values)?);
+    assert!(rt; gives_one_event(&rt, &mut decoder, &mut values));
     assert!(rt; tells_conflict(&mut decoder, &mut values));
-    values.push(FieldValue::None)?;
-    let mut shown = vec![in rt.alloc(); FieldValueRef::None]?;
+    values.push(FieldValue::None).expect(&rt, "memory");
+    let mut shown = vec![in rt.alloc(); FieldValueRef::None].expect(&rt, "memory");
     assert!(rt;
         tells_conflict(&mut decoder, &mut values) && shows_conflict(&mut decoder, &mut shown)
     );
-    Ok(())
 }
 
 /// A trace that is cut goes to the frame that is not whole: no event comes of it, and the list is empty.
-fn ends_empty(alloc: Global, bytes: &[u8], place: usize) -> Result<bool, Fail> {
-    let mut decoder = decoder_of(alloc, bytes)?;
-    let mut values = vec![in alloc; FieldValue::Bool(true)]?;
-    let mut shown = vec![in alloc; FieldValueRef::Bool(true)]?;
-    let none = next_owned(&mut decoder, &mut values)?.is_none() && values.is_empty();
-    let again = next_shown(&mut decoder, &mut shown)?.is_none() && shown.is_empty();
-    Ok(none && again && decoder.position() == place)
+fn ends_empty(rt: &impl Abort, alloc: Global, bytes: &[u8], place: usize) -> bool {
+    let mut decoder = decoder_of(rt, alloc, bytes);
+    let mut values = vec![in alloc; FieldValue::Bool(true)].expect(rt, "memory");
+    let mut shown = vec![in alloc; FieldValueRef::Bool(true)].expect(rt, "memory");
+    let none = next_owned(&mut decoder, &mut values)
+        .expect(rt, "no refusal")
+        .is_none()
+        && values.is_empty();
+    let again = next_shown(&mut decoder, &mut shown)
+        .expect(rt, "no refusal")
+        .is_none()
+        && shown.is_empty();
+    none && again && decoder.position() == place
 }
 
 #[test]
-fn no_values_where_no_event_stands(rt: HostRuntime) -> Result<(), Fail> {
+fn no_values_where_no_event_stands(rt: HostRuntime) {
     for cut in 5..26usize {
         let place = if cut < 19 { 5 } else { 19 };
-        assert!(rt; ends_empty(rt.alloc(), &ONE_EVENT[..cut], place)?);
+        assert!(rt; ends_empty(&rt, rt.alloc(), &ONE_EVENT[..cut], place));
     }
-    Ok(())
 }
 
 /// Header, the schema `K` with the field `f: String`, and an event of it at 0 with the byte FF.
@@ -224,19 +238,25 @@ const NO_TEXT: [u8; 29] = [
 ];
 
 /// The reader of values in the input gives no event, and that of owned values one, whose text has U+FFFD.
-fn is_owned_alone(alloc: Global, decoder: &mut Decoder<'_>) -> Result<bool, Fail> {
-    let mut shown = vec![in alloc; FieldValueRef::Bool(true)]?;
-    let none = next_shown(decoder, &mut shown)?.is_none() && shown.is_empty();
+fn is_owned_alone(rt: &impl Abort, alloc: Global, decoder: &mut Decoder<'_>) -> bool {
+    let mut shown = vec![in alloc; FieldValueRef::Bool(true)].expect(rt, "memory");
+    let none = next_shown(decoder, &mut shown)
+        .expect(rt, "no refusal")
+        .is_none()
+        && shown.is_empty();
     let mut values = Vec::new(alloc);
-    let is_event = is_head(next_owned(decoder, &mut values)?, 256, 0);
-    let text = FieldValue::string(alloc, "\u{FFFD}")?;
-    Ok(none && is_event && values.as_slice() == [text].as_slice())
+    let is_event = is_head(
+        next_owned(decoder, &mut values).expect(rt, "no refusal"),
+        256,
+        0,
+    );
+    let text = FieldValue::string(alloc, "\u{FFFD}").expect(rt, "memory");
+    none && is_event && values.as_slice() == [text].as_slice()
 }
 
 /// A string that is not UTF-8 is a value of its own, and none in the input.
 #[test]
-fn an_event_of_no_text(rt: HostRuntime) -> Result<(), Fail> {
-    let mut decoder = decoder_of(rt.alloc(), &NO_TEXT)?;
-    assert!(rt; is_owned_alone(rt.alloc(), &mut decoder)?);
-    Ok(())
+fn an_event_of_no_text(rt: HostRuntime) {
+    let mut decoder = decoder_of(&rt, rt.alloc(), &NO_TEXT);
+    assert!(rt; is_owned_alone(&rt, rt.alloc(), &mut decoder));
 }

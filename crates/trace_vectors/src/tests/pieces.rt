@@ -13,7 +13,7 @@ use trace_values::leb128::Faults;
 
 /// Gives so many bytes at most a read, and answers this error at each read after so many.
 #[derive(Drop)]
-pub struct Steps<'a> {
+struct Steps<'a> {
     bytes: &'a [u8],
     step: usize,
     reads: usize,
@@ -40,7 +40,7 @@ fn writes(alloc: Global, mut input: Steps<'_>, status: u8, lines: &str) -> bool 
 }
 
 /// These bytes, read in steps of a length, and so many reads at most.
-pub fn read_in(bytes: &[u8], step: usize, reads: usize) -> Steps<'_> {
+fn read_in(bytes: &[u8], step: usize, reads: usize) -> Steps<'_> {
     Steps {
         bytes,
         step,

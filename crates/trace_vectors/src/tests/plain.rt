@@ -1,15 +1,11 @@
-//! `Plain`: what it asks of the writer in it.
+//! `Plain`: what it asks of the writer in it. `crates/failing_writers` has encoders over it.
 
-use crate::tests::checks::check_refused;
-use crate::tests::traces::{ONE_EVENT, ev};
-use dial9_trace_format::encoder::Encoder;
+use crate::tests::traces::ONE_EVENT;
 use dial9_trace_format::leb128::{EncodeError, Plain, TraceWrite};
-use dial9_trace_format::types::FieldValue;
 use std::alloc::Global;
 use std::io;
 use std::io::{ErrorKind, Write};
 use std::process::Abort;
-use std::test::Fail;
 use trace_lines::dump::{FAILED, WHOLE, dump};
 use trace_values::leb128::{send_all, send_bytes};
 
@@ -98,11 +94,6 @@ fn the_error_of_a_plain_writer_is_the_fault(rt: HostRuntime) {
     let mut plain = Plain(Counting::new(rt.alloc(), 1_000, Some(write), Some(flush)));
     assert!(rt; send_bytes(&mut plain, b"a") == Err(EncodeError::Writer(write)));
     assert!(rt; dump(rt.alloc(), &ONE_EVENT, &mut plain, false) == FAILED);
-    check_refused(
-        &rt,
-        Encoder::new_to(rt.alloc(), plain).err(),
-        EncodeError::Writer(write),
-    );
 }
 
 /// The writer took these bytes, in so many writes, and was flushed so often.
@@ -113,27 +104,25 @@ fn check_counts(rt: &impl Abort, counting: &Counting, bytes: &[u8], writes: u64,
 
 /// One call of `send` makes one write, and `send_all` as many as its writer takes.
 #[test]
-fn a_long_piece_goes_out_in_the_steps_of_its_writer(rt: HostRuntime) -> Result<(), Fail> {
-    let bytes: Vec<u8> = vec![in rt.alloc(); 7; 200_000]?;
+fn a_long_piece_goes_out_in_the_steps_of_its_writer(rt: HostRuntime) {
+    let bytes: Vec<u8> = vec![in rt.alloc(); 7; 200_000].expect(&rt, "memory");
     let mut plain = Plain(Counting::new(rt.alloc(), 1_000_000, None, None));
     assert!(rt; matches!(plain.send(&bytes), Ok(200_000)));
     check_counts(&rt, &plain.0, &bytes, 1, 0);
     let mut plain = Plain(Counting::new(rt.alloc(), 65_537, None, None));
     assert!(rt; send_all(&mut plain, &bytes).is_ok());
     check_counts(&rt, &plain.0, &bytes, 4, 0);
-    Ok(())
 }
 
 #[test]
-fn settling_flushes_once(rt: HostRuntime) -> Result<(), Fail> {
+fn settling_flushes_once(rt: HostRuntime) {
     let mut plain = Plain(Counting::new(rt.alloc(), 3, None, None));
-    plain.settle()?;
+    plain.settle().expect(&rt, "a writer that works");
     check_counts(&rt, &plain.0, &[], 0, 1);
     assert!(rt; send_all(&mut plain, b"abcd").is_ok());
     check_counts(&rt, &plain.0, b"abcd", 2, 1);
-    plain.settle()?;
+    plain.settle().expect(&rt, "a writer that works");
     check_counts(&rt, &plain.0, b"abcd", 2, 2);
-    Ok(())
 }
 
 #[test]
@@ -144,22 +133,4 @@ fn a_dump_flushes_once(rt: HostRuntime) {
     let mut failing = Plain(Counting::new(rt.alloc(), 1_000, None, Some(ErrorKind::StorageFull)));
     assert!(rt; dump(rt.alloc(), &ONE_EVENT, &mut failing, false) == FAILED);
     assert!(rt; failing.0.flushes == 1);
-}
-
-/// An encoder over such a writer that has written the one event.
-fn encoder_of_one_event(alloc: Global) -> Result<Encoder<Plain<Counting>>, EncodeError> {
-    let schema = ev(alloc)?;
-    let counting = Counting::new(alloc, 3, None, None);
-    let mut encoder = Encoder::new_to(alloc, Plain(counting))?;
-    encoder.write_event(&schema, 1_000, &[FieldValue::Varint(42)])?;
-    Ok(encoder)
-}
-
-#[test]
-fn an_encoder_over_a_plain_writer(rt: HostRuntime) -> Result<(), Fail> {
-    let encoder = encoder_of_one_event(rt.alloc())?;
-    assert!(rt; encoder.bytes_written() == 26);
-    let plain = encoder.into_inner();
-    assert!(rt; plain.0.bytes.as_slice() == ONE_EVENT.as_slice() && plain.0.flushes == 0);
-    Ok(())
 }

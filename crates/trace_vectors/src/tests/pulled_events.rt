@@ -4,7 +4,7 @@ use dial9_trace_format::decoder::{DecodedFrame, FeedDecoder};
 use dial9_trace_format::resolve::{DeserError, ResolvedEvent, ResolvedValue};
 use dial9_trace_format::types::InternedStackFrames;
 use std::alloc::Global;
-use std::test::Fail;
+use std::process::Abort;
 use trace_lines::resolved::push_resolved_frame;
 
 /// Header; the schema `Ev` of wire id 256 with the fields `s: PooledString` and `k: PooledStackFrames`; the text `one`
@@ -31,38 +31,39 @@ const LINES: &str =
                      event \"Wo\" unresolved pool#7\n";
 
 /// Appends the lines of the events that are whole, each resolved before the next frame is pulled.
-fn push_events(alloc: Global, lines: &mut String, decoder: &mut FeedDecoder) -> Result<(), Fail> {
+fn push_events(rt: &impl Abort, alloc: Global, lines: &mut String, decoder: &mut FeedDecoder) {
     for _ in 0..10 {
-        let Some(frame) = decoder.next_frame()? else {
+        let Some(frame) = decoder.next_frame().expect(rt, "frames") else {
             break;
         };
-        push_resolved_frame(alloc, lines, decoder, &frame)?;
+        push_resolved_frame(alloc, lines, decoder, &frame).expect(rt, "no refusal");
     }
-    Ok(())
 }
 
 /// In pieces of this length the events are told by their own schemas, texts and stacks.
-fn are_told(alloc: Global, length: usize) -> Result<bool, Fail> {
+fn are_told(rt: &impl Abort, alloc: Global, length: usize) -> bool {
     let mut decoder = FeedDecoder::new(alloc);
     let mut lines = String::new(alloc);
     for piece in JOINED.chunks(length.max(1)) {
-        decoder.push(piece)?;
-        push_events(alloc, &mut lines, &mut decoder)?;
+        decoder.push(piece).expect(rt, "bytes that are taken");
+        push_events(rt, alloc, &mut lines, &mut decoder);
     }
-    Ok(lines.as_str() == LINES && decoder.headers() == 2)
+    lines.as_str() == LINES && decoder.headers() == 2
 }
 
 #[test]
-fn events_of_joined_traces(rt: HostRuntime) -> Result<(), Fail> {
+fn events_of_joined_traces(rt: HostRuntime) {
     for length in [135, 1, 2, 3, 5, 7, 73, 74, 75usize] {
-        assert!(rt; are_told(rt.alloc(), length)?);
+        assert!(rt; are_told(&rt, rt.alloc(), length));
     }
-    Ok(())
 }
 
 /// The next frame, which is one.
-fn pulled(decoder: &mut FeedDecoder) -> Result<DecodedFrame, Fail> {
-    Ok(decoder.next_frame()?.ok_or("no frame")?)
+fn pulled(rt: &impl Abort, decoder: &mut FeedDecoder) -> DecodedFrame {
+    decoder
+        .next_frame()
+        .expect(rt, "frames")
+        .expect(rt, "a frame")
 }
 
 /// The event's first field has this name, and holds this text.
@@ -77,57 +78,62 @@ fn begins_with(event: &ResolvedEvent, name: &str, text: &str) -> bool {
 
 /// The frame resolves to an event that begins so.
 fn resolves_to(
+    rt: &impl Abort,
     alloc: Global,
     decoder: &FeedDecoder,
     frame: &DecodedFrame,
     name: &str,
     text: &str,
-) -> Result<bool, Fail> {
-    match decoder.resolve(frame, alloc)? {
-        Some(event) => Ok(begins_with(&event, name, text)),
-        None => Ok(false),
+) -> bool {
+    match decoder.resolve(frame, alloc).expect(rt, "frames") {
+        Some(event) => begins_with(&event, name, text),
+        None => false,
     }
 }
 
 /// The next frames, so many, are no events.
-fn pulls_others(alloc: Global, decoder: &mut FeedDecoder, count: usize) -> Result<bool, Fail> {
+fn pulls_others(rt: &impl Abort, alloc: Global, decoder: &mut FeedDecoder, count: usize) -> bool {
     for _ in 0..count {
-        let frame = pulled(decoder)?;
-        if decoder.resolve(&frame, alloc)?.is_some() {
-            return Ok(false);
+        let frame = pulled(rt, decoder);
+        if decoder
+            .resolve(&frame, alloc)
+            .expect(rt, "frames")
+            .is_some()
+        {
+            return false;
         }
     }
-    Ok(true)
+    true
 }
 
 /// After so many other frames comes an event, which resolves to one that begins so.
 fn pulls_event(
+    rt: &impl Abort,
     alloc: Global,
     decoder: &mut FeedDecoder,
     others: usize,
     name: &str,
     text: &str,
-) -> Result<DecodedFrame, Fail> {
-    let is_after = pulls_others(alloc, decoder, others)?;
-    let event = pulled(decoder)?;
-    if is_after && resolves_to(alloc, decoder, &event, name, text)? {
-        return Ok(event);
+) -> DecodedFrame {
+    let is_after = pulls_others(rt, alloc, decoder, others);
+    let event = pulled(rt, decoder);
+    if is_after && resolves_to(rt, alloc, decoder, &event, name, text) {
+        return event;
     }
-    Err(Fail::from("another event"))
+    panic!(rt; "another event")
 }
 
 /// An event is resolved by what the decoder knows now: the first one, after the second header, by no stack.
-fn tells_by_now(alloc: Global) -> Result<bool, Fail> {
+fn tells_by_now(rt: &impl Abort, alloc: Global) -> bool {
     let mut decoder = FeedDecoder::new(alloc);
-    decoder.push(&JOINED)?;
-    let first = pulls_event(alloc, &mut decoder, 3, "s", "one")?;
-    pulls_event(alloc, &mut decoder, 2, "t", "two")?;
+    decoder.push(&JOINED).expect(rt, "bytes that are taken");
+    let first = pulls_event(rt, alloc, &mut decoder, 3, "s", "one");
+    pulls_event(rt, alloc, &mut decoder, 2, "t", "two");
     let none = DeserError::UnknownStack(InternedStackFrames::from_raw(0));
-    Ok(decoder.resolve(&first, alloc).err() == Some(none))
+    decoder.resolve(&first, alloc).err() == Some(none)
 }
 
 #[test]
-fn events_are_resolved_by_what_is_known(rt: HostRuntime) -> Result<(), Fail> {
-    assert!(rt; tells_by_now(rt.alloc())?);
-    Ok(())
+fn events_are_resolved_by_what_is_known(rt: HostRuntime) {
+    assert!(rt; tells_by_now(&rt, rt.alloc()));
 }

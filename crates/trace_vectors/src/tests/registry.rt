@@ -5,25 +5,23 @@ use dial9_trace_format::schema::{
     FieldDef, RegisterError, SchemaEntry, SchemaRegistry, WireTypeId,
 };
 use dial9_trace_format::types::FieldType;
-use std::alloc::{AllocError, Global};
-use std::test::Fail;
+use std::alloc::Global;
+use std::process::Abort;
 
-fn entry(alloc: Global, name: &str) -> Result<SchemaEntry, AllocError> {
-    let field = FieldDef::new(alloc, "v", FieldType::Varint)?;
-    SchemaEntry::new(alloc, name, &[field])
+fn entry(rt: &impl Abort, alloc: Global, name: &str) -> SchemaEntry {
+    let field = FieldDef::new(alloc, "v", FieldType::Varint).expect(rt, "memory");
+    SchemaEntry::new(alloc, name, &[field]).expect(rt, "memory")
 }
 
 /// `SchemaRegistry::register`, of an entry of this name.
 fn put(
+    rt: &impl Abort,
     registry: &mut SchemaRegistry,
     alloc: Global,
     id: u16,
     name: &str,
 ) -> Result<(), RegisterError> {
-    match entry(alloc, name) {
-        Ok(entry) => registry.register(WireTypeId(id), entry),
-        Err(_) => Err(RegisterError::OutOfMemory),
-    }
+    registry.register(WireTypeId(id), entry(rt, alloc, name))
 }
 
 /// `SchemaRegistry::next_type_id`.
@@ -52,19 +50,18 @@ fn has_entries(registry: &SchemaRegistry, wanted: &[(u16, &str)]) -> bool {
 }
 
 #[test]
-fn ids_are_handed_out_in_order(rt: HostRuntime) -> Result<(), Fail> {
+fn ids_are_handed_out_in_order(rt: HostRuntime) {
     let mut registry = SchemaRegistry::new(rt.alloc());
     assert!(rt; next_id(&mut registry) == Some(256));
     assert!(rt; next_id(&mut registry) == Some(257));
-    put(&mut registry, rt.alloc(), 9, "A")?;
-    put(&mut registry, rt.alloc(), 3, "B")?;
+    put(&rt, &mut registry, rt.alloc(), 9, "A").expect(&rt, "no refusal");
+    put(&rt, &mut registry, rt.alloc(), 3, "B").expect(&rt, "no refusal");
     assert!(rt; has_entries(&registry, &[(3, "B"), (9, "A")]));
     let conflict = Err(RegisterError::Conflict(WireTypeId(9)));
-    assert!(rt; put(&mut registry, rt.alloc(), 9, "B") == conflict);
-    assert!(rt; put(&mut registry, rt.alloc(), 9, "A") == Ok(()));
+    assert!(rt; put(&rt, &mut registry, rt.alloc(), 9, "B") == conflict);
+    assert!(rt; put(&rt, &mut registry, rt.alloc(), 9, "A") == Ok(()));
     registry.sync_next_id();
     assert!(rt; next_id(&mut registry) == Some(256));
-    Ok(())
 }
 
 #[test]
@@ -80,16 +77,15 @@ fn greatest_id_is_handed_out_last(rt: HostRuntime) {
 }
 
 #[test]
-fn no_id_above_the_greatest(rt: HostRuntime) -> Result<(), Fail> {
+fn no_id_above_the_greatest(rt: HostRuntime) {
     let mut registry = SchemaRegistry::new(rt.alloc());
-    put(&mut registry, rt.alloc(), 65_535, "A")?;
+    put(&rt, &mut registry, rt.alloc(), 65_535, "A").expect(&rt, "no refusal");
     registry.sync_next_id();
     assert!(rt; next_id(&mut registry) == None);
-    let mut again = registry.clone()?;
+    let mut again = registry.clone().expect(&rt, "memory");
     assert!(rt; next_id(&mut again) == None);
     assert!(rt; again.get(WireTypeId(256)).is_none());
     assert!(rt; has_entries(&again, &[(65_535, "A")]));
-    Ok(())
 }
 
 /// Two schemas without fields, of events without a time: `A` under wire id 9, and `B` under 300.
@@ -99,30 +95,28 @@ const UNTIMED: [u8; 23] = [
 ];
 
 #[test]
-fn schemas_without_a_time_are_copied(rt: HostRuntime) -> Result<(), Fail> {
-    let mut decoder = decoder_of(rt.alloc(), &UNTIMED)?;
-    assert!(rt; all(&mut decoder)?.len() == 2);
-    let copy = decoder.registry().clone()?;
+fn schemas_without_a_time_are_copied(rt: HostRuntime) {
+    let mut decoder = decoder_of(&rt, rt.alloc(), &UNTIMED);
+    assert!(rt; all(&rt, &mut decoder).len() == 2);
+    let copy = decoder.registry().clone().expect(&rt, "memory");
     assert!(rt; has_entries(&copy, &[(9, "A"), (300, "B")]));
-    Ok(())
 }
 
 /// A registry with 65,535 schemas, emptied.
-fn emptied(alloc: Global) -> Result<SchemaRegistry, RegisterError> {
+fn emptied(rt: &impl Abort, alloc: Global) -> SchemaRegistry {
     let mut registry = SchemaRegistry::new(alloc);
     for id in 1..65_536u32 {
-        put(&mut registry, alloc, id as u16, "A")?;
+        put(rt, &mut registry, alloc, id as u16, "A").expect(rt, "no refusal");
     }
     registry.clear();
-    Ok(registry)
+    registry
 }
 
 #[test]
-fn a_full_registry_is_emptied(rt: HostRuntime) -> Result<(), Fail> {
-    let mut registry = emptied(rt.alloc())?;
+fn a_full_registry_is_emptied(rt: HostRuntime) {
+    let mut registry = emptied(&rt, rt.alloc());
     assert!(rt; has_entries(&registry, &[]));
     assert!(rt; next_id(&mut registry) == Some(256));
-    put(&mut registry, rt.alloc(), 65_535, "B")?;
+    put(&rt, &mut registry, rt.alloc(), 65_535, "B").expect(&rt, "no refusal");
     assert!(rt; has_entries(&registry, &[(65_535, "B")]));
-    Ok(())
 }

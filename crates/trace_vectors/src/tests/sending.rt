@@ -6,7 +6,6 @@ use dial9_trace_format::types::FieldValue;
 use std::alloc::Global;
 use std::io::ErrorKind;
 use std::process::Abort;
-use std::test::Fail;
 use trace_samples::{Manner, Told};
 use trace_values::leb128::{Faults, send_all, send_bytes};
 
@@ -130,11 +129,10 @@ fn all_is_sent_in_any_steps(rt: HostRuntime) {
 }
 
 #[test]
-fn nothing_is_sent_of_no_bytes(rt: HostRuntime) -> Result<(), Fail> {
+fn nothing_is_sent_of_no_bytes(rt: HostRuntime) {
     for refusal in KINDS {
         let mut told = Told::new(breaking(1, 0, refusal));
-        send_bytes(&mut told, &[])?;
+        send_bytes(&mut told, &[]).expect(&rt, "no refusal");
         check_told(&rt, &told, &[], Faults::NoFault, true);
     }
-    Ok(())
 }

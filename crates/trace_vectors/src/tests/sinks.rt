@@ -8,7 +8,7 @@ use dial9_trace_format::decoder::{
 };
 use dial9_trace_format::types::FieldValueRef;
 use std::alloc::Global;
-use std::test::Fail;
+use std::process::Abort;
 
 /// Counts events, and adds their times.
 #[derive(Drop)]
@@ -102,17 +102,16 @@ fn takes_rest(decoder: &mut Decoder<'_>, total: u64) -> bool {
 const REFUSALS: [(u8, usize, u64); 3] = [(0, 25, 7), (1, 33, 0), (2, 40, 0)];
 
 /// A sink takes so many events of three and refuses one, which ends here, and another takes those after it.
-fn are_taken(alloc: Global, left: u8, place: usize, others: u64) -> Result<bool, Fail> {
+fn are_taken(rt: &impl Abort, alloc: Global, left: u8, place: usize, others: u64) -> bool {
     let mut sink = Adding { left, total: 0 };
-    let mut decoder = decoder_of(alloc, &THREE_EVENTS)?;
+    let mut decoder = decoder_of(rt, alloc, &THREE_EVENTS);
     let is_refused = is_refused(&mut decoder, &mut sink, place);
-    Ok(is_refused && takes_rest(&mut decoder, others) && decoder.position() == 40)
+    is_refused && takes_rest(&mut decoder, others) && decoder.position() == 40
 }
 
 #[test]
-fn refusals(rt: HostRuntime) -> Result<(), Fail> {
+fn refusals(rt: HostRuntime) {
     for (left, place, others) in REFUSALS {
-        assert!(rt; are_taken(rt.alloc(), left, place, others)?);
+        assert!(rt; are_taken(&rt, rt.alloc(), left, place, others));
     }
-    Ok(())
 }

@@ -1,10 +1,9 @@
 //! Schemas that are made at run time, and their events, under slots: under each from 1 to 255, known and unknown, after
-//! resets, and of names, fields and values of each size. The bytes that are wanted are spelled here after
-//! docs/FORMAT.md.
+//! resets, and of names and fields of each size. The bytes that are wanted are spelled here after docs/FORMAT.md.
+//! `tools/ample_users` has values of each size.
 
-use crate::tests::ample::events::absent;
 use crate::tests::ample::schemas::fields;
-use crate::tests::ample::{COUNTS, MILLION, SIZED, SIZES, read_value, spelled, text};
+use crate::tests::ample::{COUNTS, text};
 use crate::tests::calls::{fresh, into_encoder, read_out, run};
 use crate::tests::checks::reads_all;
 use crate::tests::traces::{HEADER, one_field};
@@ -12,9 +11,8 @@ use dial9_trace_format::encoder::{Call, Encoder, Reply, Schema};
 use dial9_trace_format::leb128::EncodeError;
 use dial9_trace_format::schema::{FieldAnnotation, FieldDef, SchemaEntry, WireTypeId};
 use dial9_trace_format::types::{FieldType, FieldValue};
-use std::alloc::{AllocError, Global};
+use std::alloc::Global;
 use std::process::Abort;
-use std::test::Fail;
 
 /// `Encoder::register_at`.
 fn register(encoder: &mut Encoder, slot: u16, schema: &Schema) -> Result<u16, EncodeError> {
@@ -44,13 +42,13 @@ fn put_seven(
 }
 
 /// `Encoder::reset_to`, of a new vector: what was written before.
-fn reset(alloc: Global, encoder: &mut Encoder) -> Result<Vec<u8>, EncodeError> {
-    encoder.reset_to(Vec::new(alloc))
+fn reset(rt: &impl Abort, alloc: Global, encoder: &mut Encoder) -> Vec<u8> {
+    encoder.reset_to(Vec::new(alloc)).expect(rt, "no refusal")
 }
 
 /// The schema `S` with the field `v` of one byte.
-fn schema(alloc: Global) -> Result<Schema, AllocError> {
-    one_field(alloc, "S", "v", FieldType::U8)
+fn schema(rt: &impl Abort, alloc: Global) -> Schema {
+    one_field(rt, alloc, "S", "v", FieldType::U8)
 }
 
 /// The frame of that schema under a wire id.
@@ -68,106 +66,109 @@ fn event_frame(id: u16, delta: u8) -> [u8; 7] {
 }
 
 /// A header, and then these bytes.
-fn trace_of(alloc: Global, frames: &[&[u8]]) -> Result<Vec<u8>, AllocError> {
-    let mut bytes = Vec::from_slice(alloc, &HEADER)?;
+fn trace_of(rt: &impl Abort, alloc: Global, frames: &[&[u8]]) -> Vec<u8> {
+    let mut bytes = Vec::from_slice(alloc, &HEADER).expect(rt, "memory");
     for frame in frames {
-        bytes.extend_from_slice(frame)?;
+        bytes.extend_from_slice(frame).expect(rt, "memory");
     }
-    Ok(bytes)
+    bytes
 }
 
 /// Registers the schema under the slot, or writes an event of it first, and then does both.
-fn slot_used(alloc: Global, slot: u16, registers: bool) -> Result<Vec<u8>, EncodeError> {
-    let mut encoder = fresh(alloc)?;
-    let schema = schema(alloc)?;
+fn slot_used(rt: &impl Abort, alloc: Global, slot: u16, registers: bool) -> Vec<u8> {
+    let mut encoder = fresh(rt, alloc);
+    let schema = schema(rt, alloc);
     if registers {
-        register(&mut encoder, slot, &schema)?;
+        register(&mut encoder, slot, &schema).expect(rt, "no refusal");
     }
-    put_seven(&mut encoder, slot, &schema, 5)?;
-    register(&mut encoder, slot, &schema)?;
-    put_seven(&mut encoder, slot, &schema, 14)?;
-    Ok(encoder.finish())
+    put_seven(&mut encoder, slot, &schema, 5).expect(rt, "no refusal");
+    register(&mut encoder, slot, &schema).expect(rt, "no refusal");
+    put_seven(&mut encoder, slot, &schema, 14).expect(rt, "no refusal");
+    encoder.finish()
 }
 
 #[test]
-fn a_slot_is_the_wire_id(rt: HostRuntime) -> Result<(), Fail> {
+fn a_slot_is_the_wire_id(rt: HostRuntime) {
     for slot in 1..=255u16 {
         let schema = schema_frame(slot);
         let frames: [&[u8]; 3] = [&schema, &event_frame(slot, 5), &event_frame(slot, 9)];
-        let wanted = trace_of(rt.alloc(), &frames)?;
-        assert!(rt; slot_used(rt.alloc(), slot, true)?.as_slice() == wanted.as_slice());
-        assert!(rt; slot_used(rt.alloc(), slot, false)?.as_slice() == wanted.as_slice());
+        let wanted = trace_of(&rt, rt.alloc(), &frames);
+        assert!(rt; slot_used(&rt, rt.alloc(), slot, true).as_slice() == wanted.as_slice());
+        assert!(rt; slot_used(&rt, rt.alloc(), slot, false).as_slice() == wanted.as_slice());
     }
-    Ok(())
 }
 
 /// An event of the schema under each slot, at the time.
-fn put_each(encoder: &mut Encoder, schema: &Schema, time: u64) -> Result<(), EncodeError> {
+fn put_each(rt: &impl Abort, encoder: &mut Encoder, schema: &Schema, time: u64) {
     for slot in 1..=255u16 {
-        put_seven(encoder, slot, schema, time)?;
+        put_seven(encoder, slot, schema, time).expect(rt, "no refusal");
     }
-    Ok(())
 }
 
 /// Two traces of one encoder, the second after a reset: each has an event under each slot, and then again.
-fn all_slots(alloc: Global) -> Result<(Vec<u8>, Vec<u8>), EncodeError> {
-    let mut encoder = fresh(alloc)?;
-    let schema = schema(alloc)?;
-    put_each(&mut encoder, &schema, 0)?;
-    put_each(&mut encoder, &schema, 3)?;
-    let first = reset(alloc, &mut encoder)?;
-    put_each(&mut encoder, &schema, 0)?;
-    put_each(&mut encoder, &schema, 3)?;
-    Ok((first, encoder.finish()))
+fn all_slots(rt: &impl Abort, alloc: Global) -> (Vec<u8>, Vec<u8>) {
+    let mut encoder = fresh(rt, alloc);
+    let schema = schema(rt, alloc);
+    put_each(rt, &mut encoder, &schema, 0);
+    put_each(rt, &mut encoder, &schema, 3);
+    let first = reset(rt, alloc, &mut encoder);
+    put_each(rt, &mut encoder, &schema, 0);
+    put_each(rt, &mut encoder, &schema, 3);
+    (first, encoder.finish())
 }
 
 /// What each of them has.
-fn all_slots_wanted(alloc: Global) -> Result<Vec<u8>, AllocError> {
-    let mut bytes = Vec::from_slice(alloc, &HEADER)?;
+fn all_slots_wanted(rt: &impl Abort, alloc: Global) -> Vec<u8> {
+    let mut bytes = Vec::from_slice(alloc, &HEADER).expect(rt, "memory");
     for slot in 1..=255u16 {
-        bytes.extend_from_slice(&schema_frame(slot))?;
-        bytes.extend_from_slice(&event_frame(slot, 0))?;
+        bytes
+            .extend_from_slice(&schema_frame(slot))
+            .expect(rt, "memory");
+        bytes
+            .extend_from_slice(&event_frame(slot, 0))
+            .expect(rt, "memory");
     }
     for slot in 1..=255u16 {
-        bytes.extend_from_slice(&event_frame(slot, if slot == 1 { 3 } else { 0 }))?;
+        bytes
+            .extend_from_slice(&event_frame(slot, if slot == 1 { 3 } else { 0 }))
+            .expect(rt, "memory");
     }
-    Ok(bytes)
+    bytes
 }
 
 #[test]
-fn all_slots_after_a_reset(rt: HostRuntime) -> Result<(), Fail> {
-    let (first, second) = all_slots(rt.alloc())?;
-    let wanted = all_slots_wanted(rt.alloc())?;
+fn all_slots_after_a_reset(rt: HostRuntime) {
+    let (first, second) = all_slots(&rt, rt.alloc());
+    let wanted = all_slots_wanted(&rt, rt.alloc());
     assert!(rt; first.as_slice() == wanted.as_slice());
     assert!(rt; second.as_slice() == wanted.as_slice());
-    assert!(rt; reads_all(rt.alloc(), &first, 765, first.len())?);
-    Ok(())
+    assert!(rt; reads_all(&rt, rt.alloc(), &first, 765, first.len()));
 }
 
 /// Under each other slot the schema goes by its name, and an event of it is written.
-fn put_by_name(encoder: &mut Encoder, schema: &Schema) -> Result<bool, EncodeError> {
+fn put_by_name(rt: &impl Abort, encoder: &mut Encoder, schema: &Schema) -> bool {
     for slot in [256, 0, 300, 65_535] {
-        if register(encoder, slot, schema)? != 256 {
-            return Ok(false);
+        if register(encoder, slot, schema).expect(rt, "no refusal") != 256 {
+            return false;
         }
-        put_seven(encoder, slot, schema, 0)?;
+        put_seven(encoder, slot, schema, 0).expect(rt, "no refusal");
     }
-    Ok(true)
+    true
 }
 
 #[test]
-fn other_slots_go_by_the_name(rt: HostRuntime) -> Result<(), Fail> {
-    let mut encoder = fresh(rt.alloc())?;
-    let schema = schema(rt.alloc())?;
+fn other_slots_go_by_the_name(rt: HostRuntime) {
+    let mut encoder = fresh(&rt, rt.alloc());
+    let schema = schema(&rt, rt.alloc());
     assert!(rt;
-        put_by_name(&mut encoder, &schema)? && register(&mut encoder, 255, &schema)? == 255
+        put_by_name(&rt, &mut encoder, &schema)
+            && register(&mut encoder, 255, &schema).expect(&rt, "no refusal") == 255
     );
     let event = event_frame(256, 0);
     let (by_name, by_slot) = (schema_frame(256), schema_frame(255));
     let frames: [&[u8]; 6] = [&by_name, &event, &event, &event, &event, &by_slot];
-    let wanted = trace_of(rt.alloc(), &frames)?;
+    let wanted = trace_of(&rt, rt.alloc(), &frames);
     assert!(rt; encoder.finish().as_slice() == wanted.as_slice());
-    Ok(())
 }
 
 /// The schema is refused so, and so is an event of it.
@@ -177,14 +178,18 @@ fn is_refused(encoder: &mut Encoder, slot: u16, schema: &Schema, error: EncodeEr
 }
 
 /// Another schema of the name is refused, under its slot and by its name, and one whose name is too long.
-fn refuses_schemas(alloc: Global, encoder: &mut Encoder, slot: u16) -> Result<bool, AllocError> {
-    let other = one_field(alloc, "S", "w", FieldType::U8)?;
-    let long = one_field(alloc, text(alloc, 65_536)?.as_str(), "v", FieldType::U8)?;
-    Ok(
-        is_refused(encoder, slot, &other, EncodeError::SlotTaken)
-            && is_refused(encoder, 0, &other, EncodeError::Conflict)
-            && is_refused(encoder, slot ^ 1, &long, EncodeError::TooLong),
-    )
+fn refuses_schemas(rt: &impl Abort, alloc: Global, encoder: &mut Encoder, slot: u16) -> bool {
+    let other = one_field(rt, alloc, "S", "w", FieldType::U8);
+    let long = one_field(
+        rt,
+        alloc,
+        text(rt, alloc, 65_536).as_str(),
+        "v",
+        FieldType::U8,
+    );
+    is_refused(encoder, slot, &other, EncodeError::SlotTaken)
+        && is_refused(encoder, 0, &other, EncodeError::Conflict)
+        && is_refused(encoder, slot ^ 1, &long, EncodeError::TooLong)
 }
 
 /// No value is refused, and one that is no byte.
@@ -195,30 +200,28 @@ fn refuses_values(encoder: &mut Encoder, schema: &Schema, slot: u16) -> bool {
 }
 
 /// An encoder that knows the schema under the slot and by its name.
-fn knowing(alloc: Global, schema: &Schema, slot: u16) -> Result<Encoder, EncodeError> {
-    let mut encoder = fresh(alloc)?;
-    register(&mut encoder, slot, schema)?;
-    register(&mut encoder, 0, schema)?;
-    Ok(encoder)
+fn knowing(rt: &impl Abort, alloc: Global, schema: &Schema, slot: u16) -> Encoder {
+    let mut encoder = fresh(rt, alloc);
+    register(&mut encoder, slot, schema).expect(rt, "no refusal");
+    register(&mut encoder, 0, schema).expect(rt, "no refusal");
+    encoder
 }
 
 /// What is refused writes nothing.
-fn check_refusals(rt: &impl Abort, alloc: Global, slot: u16) -> Result<(), Fail> {
-    let schema = schema(alloc)?;
-    let mut encoder = knowing(alloc, &schema, slot)?;
-    assert!(rt; refuses_schemas(alloc, &mut encoder, slot)?);
+fn check_refusals(rt: &impl Abort, alloc: Global, slot: u16) {
+    let schema = schema(rt, alloc);
+    let mut encoder = knowing(rt, alloc, &schema, slot);
+    assert!(rt; refuses_schemas(rt, alloc, &mut encoder, slot));
     assert!(rt; refuses_values(&mut encoder, &schema, slot));
-    let wanted = trace_of(alloc, &[&schema_frame(slot), &schema_frame(256)])?;
+    let wanted = trace_of(rt, alloc, &[&schema_frame(slot), &schema_frame(256)]);
     assert!(rt; encoder.finish().as_slice() == wanted.as_slice());
-    Ok(())
 }
 
 #[test]
-fn refusals_of_slots(rt: HostRuntime) -> Result<(), Fail> {
+fn refusals_of_slots(rt: HostRuntime) {
     for slot in [2u16, 254, 255] {
-        check_refusals(&rt, rt.alloc(), slot)?;
+        check_refusals(&rt, rt.alloc(), slot);
     }
-    Ok(())
 }
 
 /// A schema `A` without fields under slot 9, whose events have no time.
@@ -227,9 +230,9 @@ const UNTIMED: [u8; 14] = [
 ];
 
 /// An encoder that goes on after it.
-fn after_untimed(alloc: Global) -> Result<Encoder, Fail> {
-    let decoder = read_out(alloc, &UNTIMED)?;
-    Ok(into_encoder(alloc, decoder)?)
+fn after_untimed(rt: &impl Abort, alloc: Global) -> Encoder {
+    let decoder = read_out(rt, alloc, &UNTIMED);
+    into_encoder(rt, alloc, decoder)
 }
 
 /// The schema without fields is refused under its slot, as its events have no time.
@@ -239,33 +242,33 @@ fn is_untimed(encoder: &mut Encoder, untimed: &Schema) -> bool {
 }
 
 #[test]
-fn a_slot_without_times(rt: HostRuntime) -> Result<(), Fail> {
-    let mut encoder = after_untimed(rt.alloc())?;
-    let untimed = Schema::new(rt.alloc(), "A", Vec::new(rt.alloc()))?;
+fn a_slot_without_times(rt: HostRuntime) {
+    let mut encoder = after_untimed(&rt, rt.alloc());
+    let untimed = Schema::new(rt.alloc(), "A", Vec::new(rt.alloc())).expect(&rt, "memory");
     assert!(rt; is_untimed(&mut encoder, &untimed));
-    let schema = schema(rt.alloc())?;
+    let schema = schema(&rt, rt.alloc());
     assert!(rt; is_refused(&mut encoder, 9, &schema, EncodeError::SlotTaken));
-    assert!(rt; register(&mut encoder, 8, &schema)? == 8);
+    assert!(rt; register(&mut encoder, 8, &schema).expect(&rt, "no refusal") == 8);
     assert!(rt; encoder.finish().as_slice() == schema_frame(8).as_slice());
-    Ok(())
 }
 
 /// `S` with an annotation of its field: `unit` is `ns`.
-fn annotated(alloc: Global) -> Result<Schema, AllocError> {
-    let field = FieldDef::new(alloc, "v", FieldType::U8)?;
-    let unit = FieldAnnotation::new(alloc, 0, "unit", "ns")?;
+fn annotated(rt: &impl Abort, alloc: Global) -> Schema {
+    let field = FieldDef::new(alloc, "v", FieldType::U8).expect(rt, "memory");
+    let unit = FieldAnnotation::new(alloc, 0, "unit", "ns").expect(rt, "memory");
     Schema::from_entry(
         alloc,
-        SchemaEntry::with_annotations(alloc, "S", &[field], &[unit])?,
+        SchemaEntry::with_annotations(alloc, "S", &[field], &[unit]).expect(rt, "memory"),
     )
+    .expect(rt, "memory")
 }
 
 /// What an encoder writes for an event of it under the slot.
-fn annotated_event(alloc: Global, slot: u16) -> Result<Vec<u8>, EncodeError> {
-    let mut encoder = fresh(alloc)?;
-    let schema = annotated(alloc)?;
-    put_seven(&mut encoder, slot, &schema, 0)?;
-    Ok(encoder.finish())
+fn annotated_event(rt: &impl Abort, alloc: Global, slot: u16) -> Vec<u8> {
+    let mut encoder = fresh(rt, alloc);
+    let schema = annotated(rt, alloc);
+    put_seven(&mut encoder, slot, &schema, 0).expect(rt, "no refusal");
+    encoder.finish()
 }
 
 /// The frame of that annotation, after its wire id.
@@ -274,151 +277,129 @@ const UNIT: [u8; 16] = [
 ];
 
 /// Under the slot the frame of annotations begins with its tag and the wire id.
-fn is_annotated(alloc: Global, slot: u16, id: &[u8]) -> Result<bool, EncodeError> {
-    let bytes = annotated_event(alloc, slot)?;
+fn is_annotated(rt: &impl Abort, alloc: Global, slot: u16, id: &[u8]) -> bool {
+    let bytes = annotated_event(rt, alloc, slot);
     let frames: [&[u8]; 4] = [&schema_frame(slot), id, &UNIT, &event_frame(slot, 0)];
-    let wanted = trace_of(alloc, &frames)?;
-    Ok(bytes.as_slice() == wanted.as_slice())
+    let wanted = trace_of(rt, alloc, &frames);
+    bytes.as_slice() == wanted.as_slice()
 }
 
 #[test]
-fn annotations_under_a_slot(rt: HostRuntime) -> Result<(), Fail> {
-    assert!(rt; is_annotated(rt.alloc(), 1, &[0x06, 0x01])?);
-    assert!(rt; is_annotated(rt.alloc(), 127, &[0x06, 0x7F])?);
-    assert!(rt; is_annotated(rt.alloc(), 128, &[0x06, 0x80, 0x01])?);
-    assert!(rt; is_annotated(rt.alloc(), 255, &[0x06, 0xFF, 0x01])?);
-    Ok(())
+fn annotations_under_a_slot(rt: HostRuntime) {
+    assert!(rt; is_annotated(&rt, rt.alloc(), 1, &[0x06, 0x01]));
+    assert!(rt; is_annotated(&rt, rt.alloc(), 127, &[0x06, 0x7F]));
+    assert!(rt; is_annotated(&rt, rt.alloc(), 128, &[0x06, 0x80, 0x01]));
+    assert!(rt; is_annotated(&rt, rt.alloc(), 255, &[0x06, 0xFF, 0x01]));
 }
 
 /// What an encoder writes for the schema, twice, and an event of it, at 0, under the slot.
 fn event_of(
+    rt: &impl Abort,
     alloc: Global,
     slot: u16,
     schema: &Schema,
     values: &[FieldValue],
-) -> Result<Vec<u8>, EncodeError> {
-    let mut encoder = fresh(alloc)?;
-    register(&mut encoder, slot, schema)?;
-    register(&mut encoder, slot, schema)?;
-    put(&mut encoder, slot, schema, 0, values)?;
-    Ok(encoder.finish())
+) -> Vec<u8> {
+    let mut encoder = fresh(rt, alloc);
+    register(&mut encoder, slot, schema).expect(rt, "no refusal");
+    register(&mut encoder, slot, schema).expect(rt, "no refusal");
+    put(&mut encoder, slot, schema, 0, values).expect(rt, "no refusal");
+    encoder.finish()
 }
 
 /// They make so many bytes, which are read.
 fn are_written(
+    rt: &impl Abort,
     alloc: Global,
     slot: u16,
     schema: &Schema,
     values: &[FieldValue],
     length: u64,
-) -> Result<bool, Fail> {
-    let bytes = event_of(alloc, slot, schema, values)?;
-    Ok(bytes.len() as u64 == length && reads_all(alloc, &bytes, 2, bytes.len())?)
+) -> bool {
+    let bytes = event_of(rt, alloc, slot, schema, values);
+    bytes.len() as u64 == length && reads_all(rt, alloc, &bytes, 2, bytes.len())
 }
 
 /// A schema with a name of this size.
-fn is_named(alloc: Global, size: usize) -> Result<bool, Fail> {
-    let schema = Schema::new(alloc, text(alloc, size)?.as_str(), Vec::new(alloc))?;
-    are_written(alloc, 255, &schema, &[], (size as u64).saturating_add(19))
-}
-
-#[test]
-fn names_under_a_slot(rt: HostRuntime) -> Result<(), Fail> {
-    for size in COUNTS {
-        assert!(rt; is_named(rt.alloc(), size)?);
-    }
-    assert!(rt; is_named(rt.alloc(), 65_535)?);
-    Ok(())
-}
-
-/// A schema of so many fields, which are absent.
-fn has_fields(alloc: Global, count: usize) -> Result<bool, Fail> {
-    let schema = Schema::new(alloc, "", fields(alloc, count, FieldType::OptionalU8)?)?;
-    let length = (count as u64).saturating_mul(4).saturating_add(19);
-    are_written(alloc, 1, &schema, &absent(alloc, count)?, length)
-}
-
-#[test]
-fn fields_under_a_slot(rt: HostRuntime) -> Result<(), Fail> {
-    for count in COUNTS {
-        assert!(rt; has_fields(rt.alloc(), count)?);
-    }
-    assert!(rt; has_fields(rt.alloc(), 65_535)?);
-    Ok(())
-}
-
-/// A value of this size, under a slot that is the wire id, and by the name.
-fn is_sized(alloc: Global, field_type: FieldType, size: usize) -> Result<bool, Fail> {
-    let schema = one_field(alloc, "K", "f", field_type)?;
-    let spelled = spelled(alloc, field_type, size)?;
-    let values = [read_value(alloc, field_type, &spelled)?];
-    let length = (spelled.len() as u64).saturating_add(24);
-    Ok(
-        are_written(alloc, 128, &schema, &values, length)?
-            && are_written(alloc, 0, &schema, &values, length)?,
+fn is_named(rt: &impl Abort, alloc: Global, size: usize) -> bool {
+    let schema = Schema::new(alloc, text(rt, alloc, size).as_str(), Vec::new(alloc)).expect(
+        rt, "memory",
+    );
+    are_written(
+        rt,
+        alloc,
+        255,
+        &schema,
+        &[],
+        (size as u64).saturating_add(19),
     )
 }
 
 #[test]
-fn values_under_a_slot(rt: HostRuntime) -> Result<(), Fail> {
-    for field_type in SIZED {
-        for size in SIZES {
-            assert!(rt; is_sized(rt.alloc(), field_type, size)?);
-        }
+fn names_under_a_slot(rt: HostRuntime) {
+    for size in COUNTS {
+        assert!(rt; is_named(&rt, rt.alloc(), size));
     }
-    Ok(())
+    assert!(rt; is_named(&rt, rt.alloc(), 65_535));
+}
+
+/// So many absent values.
+fn absent(rt: &impl Abort, alloc: Global, count: usize) -> Vec<FieldValue> {
+    let mut values = Vec::new(alloc);
+    for _ in 0..count {
+        values.push(FieldValue::None).expect(rt, "memory");
+    }
+    values
+}
+
+/// A schema of so many fields, which are absent.
+fn has_fields(rt: &impl Abort, alloc: Global, count: usize) -> bool {
+    let schema = Schema::new(alloc, "", fields(rt, alloc, count, FieldType::OptionalU8)).expect(
+        rt, "memory",
+    );
+    let length = (count as u64).saturating_mul(4).saturating_add(19);
+    are_written(rt, alloc, 1, &schema, &absent(rt, alloc, count), length)
 }
 
 #[test]
-fn values_of_a_million_under_a_slot(rt: HostRuntime) -> Result<(), Fail> {
-    for field_type in SIZED {
-        assert!(rt; is_sized(rt.alloc(), field_type, MILLION)?);
+fn fields_under_a_slot(rt: HostRuntime) {
+    for count in COUNTS {
+        assert!(rt; has_fields(&rt, rt.alloc(), count));
     }
-    Ok(())
-}
-
-/// A hundred thousand events under the slot.
-fn many(alloc: Global, slot: u16) -> Result<Vec<u8>, EncodeError> {
-    let mut encoder = fresh(alloc)?;
-    let schema = schema(alloc)?;
-    for time in 0..100_000u64 {
-        put_seven(&mut encoder, slot, &schema, time)?;
-    }
-    Ok(encoder.finish())
-}
-
-#[test]
-fn many_events_under_a_slot(rt: HostRuntime) -> Result<(), Fail> {
-    let bytes = many(rt.alloc(), 3)?;
-    assert!(rt; bytes.len() == 700_018);
-    assert!(rt; reads_all(rt.alloc(), &bytes, 100_001, 700_018)?);
-    Ok(())
+    assert!(rt; has_fields(&rt, rt.alloc(), 65_535));
 }
 
 /// Both calls under a slot, as data.
-fn calls(alloc: Global, slot: u16) -> Result<Vec<Call>, AllocError> {
-    let schema = schema(alloc)?;
-    let again = schema.clone()?;
-    let values = vec![in alloc; FieldValue::Varint(7)]?;
+fn calls(rt: &impl Abort, alloc: Global, slot: u16) -> Vec<Call> {
+    let schema = schema(rt, alloc);
+    let again = schema.clone().expect(rt, "memory");
+    let values = vec![in alloc; FieldValue::Varint(7)].expect(rt, "memory");
     let mut calls = Vec::new(alloc);
-    calls.push(Call::RegisterAt(slot, schema))?;
-    calls.push(Call::WriteEventAt(slot, again, 5, values))?;
-    Ok(calls)
+    calls
+        .push(Call::RegisterAt(slot, schema))
+        .expect(rt, "memory");
+    calls
+        .push(Call::WriteEventAt(slot, again, 5, values))
+        .expect(rt, "memory");
+    calls
 }
 
 /// They are answered.
-fn are_answered(alloc: Global, encoder: &mut Encoder, slot: u16) -> Result<bool, AllocError> {
-    let replies = run(alloc, encoder, &calls(alloc, slot)?)?;
-    Ok(replies.as_slice() == [Reply::WireId(WireTypeId(slot)), Reply::Done].as_slice())
+fn are_answered(rt: &impl Abort, alloc: Global, encoder: &mut Encoder, slot: u16) -> bool {
+    let replies = run(rt, alloc, encoder, &calls(rt, alloc, slot));
+    replies.as_slice() == [Reply::WireId(WireTypeId(slot)), Reply::Done].as_slice()
 }
 
 #[test]
-fn calls_as_data_under_a_slot(rt: HostRuntime) -> Result<(), Fail> {
+fn calls_as_data_under_a_slot(rt: HostRuntime) {
     for slot in 1..=255u16 {
-        let mut encoder = fresh(rt.alloc())?;
-        assert!(rt; are_answered(rt.alloc(), &mut encoder, slot)?);
-        let wanted = trace_of(rt.alloc(), &[&schema_frame(slot), &event_frame(slot, 5)])?;
+        let mut encoder = fresh(&rt, rt.alloc());
+        assert!(rt; are_answered(&rt, rt.alloc(), &mut encoder, slot));
+        let wanted = trace_of(
+            &rt,
+            rt.alloc(),
+            &[&schema_frame(slot), &event_frame(slot, 5)],
+        );
         assert!(rt; encoder.finish().as_slice() == wanted.as_slice());
     }
-    Ok(())
 }

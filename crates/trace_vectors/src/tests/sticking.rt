@@ -5,8 +5,8 @@ mod limits;
 use crate::tests::traces::{HEADER, ONE_EVENT};
 use dial9_trace_format::codec::WireTypeId;
 use dial9_trace_format::decoder::{DecodeErrorKind, FeedDecoder};
-use std::alloc::{AllocError, Global};
-use std::test::Fail;
+use std::alloc::Global;
+use std::process::Abort;
 
 /// The schema `Ev`, of wire id 256, with one field `v` of type Varint.
 pub const NUMBERS: [u8; 14] = [1, 0, 1, 2, 0, 0x45, 0x76, 1, 1, 0, 1, 0, 0x76, 9];
@@ -104,26 +104,26 @@ const ROWS: [Row; 12] = [
 ];
 
 /// Takes these bytes, and all frames that are whole.
-fn push(decoder: &mut FeedDecoder, bytes: &[u8]) -> Result<(), Fail> {
-    decoder.push(bytes)?;
+fn push(rt: &impl Abort, decoder: &mut FeedDecoder, bytes: &[u8]) {
+    decoder.push(bytes).expect(rt, "bytes that are taken");
     for _ in 0..10 {
-        if decoder.next_frame()?.is_none() {
-            return Ok(());
+        if decoder.next_frame().expect(rt, "frames").is_none() {
+            return;
         }
     }
-    Err("frames without an end")?
+    panic!(rt; "frames without an end")
 }
 
 /// A decoder that took these bytes, of which frames may come.
-fn waiting(alloc: Global, parts: &[&[u8]]) -> Result<FeedDecoder, Fail> {
+fn waiting(rt: &impl Abort, alloc: Global, parts: &[&[u8]]) -> FeedDecoder {
     let mut decoder = FeedDecoder::new(alloc);
     for part in parts {
-        push(&mut decoder, part)?;
+        push(rt, &mut decoder, part);
     }
     if decoder.stuck().is_some() {
-        return Err(Fail::from("no frame may come"));
+        panic!(rt; "no frame may come");
     }
-    Ok(decoder)
+    decoder
 }
 
 /// The decoder works, and tells that no frame comes, for this reason and here.
@@ -136,113 +136,109 @@ fn sticks(decoder: &FeedDecoder, kind: DecodeErrorKind, place: usize) -> bool {
 
 /// After these bytes and all but one of those, frames may come; with the last one they do not, nor after more bytes.
 fn shows_at_last(
+    rt: &impl Abort,
     alloc: Global,
     whole: &[u8],
     cut: &[u8],
     kind: DecodeErrorKind,
     place: usize,
-) -> Result<bool, Fail> {
-    let (last, front) = cut.split_last().ok_or("no bytes")?;
-    let mut decoder = waiting(alloc, &[&HEADER, whole, front])?;
+) -> bool {
+    let (last, front) = cut.split_last().expect(rt, "bytes");
+    let mut decoder = waiting(rt, alloc, &[&HEADER, whole, front]);
     for piece in [&[*last][..], &[0; 100]] {
-        push(&mut decoder, piece)?;
+        push(rt, &mut decoder, piece);
         if !sticks(&decoder, kind, place) {
-            return Ok(false);
+            return false;
         }
     }
-    Ok(true)
+    true
 }
 
 /// The same, fed byte by byte.
 fn shows_byte_by_byte(
+    rt: &impl Abort,
     alloc: Global,
     whole: &[u8],
     cut: &[u8],
     kind: DecodeErrorKind,
     place: usize,
-) -> Result<bool, Fail> {
+) -> bool {
     let mut decoder = FeedDecoder::new(alloc);
-    decoder.feed(&HEADER)?;
-    decoder.feed(whole)?;
+    decoder.feed(&HEADER).expect(rt, "frames");
+    decoder.feed(whole).expect(rt, "frames");
     for piece in cut.chunks(1) {
         if decoder.stuck().is_some() {
-            return Ok(false);
+            return false;
         }
-        decoder.feed(piece)?;
+        decoder.feed(piece).expect(rt, "frames");
     }
-    Ok(
-        sticks(&decoder, kind, place)
-            && decoder.position() == HEADER.len().saturating_add(whole.len()),
-    )
+    sticks(&decoder, kind, place) && decoder.position() == HEADER.len().saturating_add(whole.len())
 }
 
 /// Both, where the place is told from the first of the latter bytes on.
 pub fn shows(
+    rt: &impl Abort,
     alloc: Global,
     whole: &[u8],
     cut: &[u8],
     kind: DecodeErrorKind,
     place: usize,
-) -> Result<bool, Fail> {
+) -> bool {
     let there = HEADER
         .len()
         .saturating_add(whole.len())
         .saturating_add(place);
-    Ok(
-        shows_at_last(alloc, whole, cut, kind, there)?
-            && shows_byte_by_byte(alloc, whole, cut, kind, there)?,
-    )
+    shows_at_last(rt, alloc, whole, cut, kind, there)
+        && shows_byte_by_byte(rt, alloc, whole, cut, kind, there)
 }
 
 #[test]
-fn each_cause(rt: HostRuntime) -> Result<(), Fail> {
+fn each_cause(rt: HostRuntime) {
     for (whole, cut, kind, place) in ROWS {
-        assert!(rt; shows(rt.alloc(), whole, cut, kind, place)?);
+        assert!(rt; shows(&rt, rt.alloc(), whole, cut, kind, place));
     }
-    Ok(())
 }
 
 /// An event of these bytes after its delta.
-fn event_of(alloc: Global, field: &[u8]) -> Result<Vec<u8>, AllocError> {
+fn event_of(rt: &impl Abort, alloc: Global, field: &[u8]) -> Vec<u8> {
     let mut bytes = Vec::new(alloc);
-    bytes.extend_from_slice(&AN_EVENT)?;
-    bytes.extend_from_slice(field)?;
-    Ok(bytes)
+    bytes.extend_from_slice(&AN_EVENT).expect(rt, "memory");
+    bytes.extend_from_slice(field).expect(rt, "memory");
+    bytes
 }
 
 #[test]
-fn numbers_without_an_end(rt: HostRuntime) -> Result<(), Fail> {
-    let event = event_of(rt.alloc(), &ENDLESS)?;
+fn numbers_without_an_end(rt: HostRuntime) {
+    let event = event_of(&rt, rt.alloc(), &ENDLESS);
     let kind = DecodeErrorKind::TruncatedValue;
-    assert!(rt; shows(rt.alloc(), &NUMBERS, event.as_slice(), kind, 6)?);
+    assert!(rt; shows(&rt, rt.alloc(), &NUMBERS, event.as_slice(), kind, 6));
     let kind = DecodeErrorKind::NoFrame(6);
-    assert!(rt; shows(rt.alloc(), &[], &ENDLESS_NOTES, kind, 1)?);
-    Ok(())
+    assert!(rt; shows(&rt, rt.alloc(), &[], &ENDLESS_NOTES, kind, 1));
 }
 
 /// The field of an event: so many lists of one item, one in the other, up to the count of the last.
-fn deep(alloc: Global, lists: usize) -> Result<Vec<u8>, AllocError> {
+fn deep(rt: &impl Abort, alloc: Global, lists: usize) -> Vec<u8> {
     let mut bytes = Vec::new(alloc);
     for _ in 1..lists {
-        bytes.extend_from_slice(&[1, 0, 0, 0, 14])?;
+        bytes
+            .extend_from_slice(&[1, 0, 0, 0, 14])
+            .expect(rt, "memory");
     }
-    bytes.extend_from_slice(&[1, 0, 0, 0])?;
-    Ok(bytes)
+    bytes.extend_from_slice(&[1, 0, 0, 0]).expect(rt, "memory");
+    bytes
 }
 
 #[test]
-fn lists_too_deep(rt: HostRuntime) -> Result<(), Fail> {
-    let event = event_of(rt.alloc(), &deep(rt.alloc(), 33)?)?;
+fn lists_too_deep(rt: HostRuntime) {
+    let event = event_of(&rt, rt.alloc(), &deep(&rt, rt.alloc(), 33));
     let kind = DecodeErrorKind::TruncatedValue;
-    assert!(rt; shows(rt.alloc(), &LISTS, event.as_slice(), kind, 166)?);
-    Ok(())
+    assert!(rt; shows(&rt, rt.alloc(), &LISTS, event.as_slice(), kind, 166));
 }
 
 /// Frames that can come still are waited for, wherever they are cut.
 #[test]
-fn whole_traces_do_not_stick(rt: HostRuntime) -> Result<(), Fail> {
+fn whole_traces_do_not_stick(rt: HostRuntime) {
     for cut in 0..ONE_EVENT.len() {
-        waiting(rt.alloc(), &[&ONE_EVENT[..cut]])?;
+        waiting(&rt, rt.alloc(), &[&ONE_EVENT[..cut]]);
     }
-    Ok(())
 }

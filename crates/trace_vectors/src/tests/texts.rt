@@ -6,8 +6,15 @@ use dial9_trace_format::leb128::EncodeError;
 use dial9_trace_format::resolve::DeserError;
 use dial9_trace_format::schema::RegisterError;
 use dial9_trace_format::types::{InternedStackFrames, InternedString};
+use std::alloc::Global;
+use std::fmt::Display;
 use std::io::ErrorKind;
-use std::test::Fail;
+use std::process::Abort;
+
+/// The error is printed so.
+fn has_text(rt: &impl Abort, alloc: Global, error: &impl Display, text: &str) -> bool {
+    format!(in alloc; "{error}").expect(rt, "memory").as_str() == text
+}
 
 const ENCODING: [(EncodeError, &str); 11] = [
     (
@@ -41,19 +48,17 @@ const REGISTERING: [(RegisterError, &str); 2] = [
 ];
 
 #[test]
-fn errors_of_encoding(rt: HostRuntime) -> Result<(), Fail> {
+fn errors_of_encoding(rt: HostRuntime) {
     for (error, text) in ENCODING {
-        assert!(rt; format!(in rt.alloc(); "{error}")?.as_str() == text);
+        assert!(rt; has_text(&rt, rt.alloc(), &error, text));
     }
-    Ok(())
 }
 
 #[test]
-fn errors_of_registering(rt: HostRuntime) -> Result<(), Fail> {
+fn errors_of_registering(rt: HostRuntime) {
     for (error, text) in REGISTERING {
-        assert!(rt; format!(in rt.alloc(); "{error}")?.as_str() == text);
+        assert!(rt; has_text(&rt, rt.alloc(), &error, text));
     }
-    Ok(())
 }
 
 /// Errors of a decoder that is fed in pieces that recordings have not.
@@ -82,11 +87,10 @@ const FEEDING: [(DecodeError, &str); 3] = [
 ];
 
 #[test]
-fn errors_of_feeding(rt: HostRuntime) -> Result<(), Fail> {
+fn errors_of_feeding(rt: HostRuntime) {
     for (error, text) in FEEDING {
-        assert!(rt; format!(in rt.alloc(); "{error}")?.as_str() == text);
+        assert!(rt; has_text(&rt, rt.alloc(), &error, text));
     }
-    Ok(())
 }
 
 /// Errors of a reader that shows events to a sink that recordings have not: want of memory, and the sink's own.
@@ -105,15 +109,14 @@ const SHOWING: [(TryForEachError<EncodeError>, &str); 2] = [
 ];
 
 #[test]
-fn errors_of_showing(rt: HostRuntime) -> Result<(), Fail> {
+fn errors_of_showing(rt: HostRuntime) {
     for (error, text) in SHOWING {
-        assert!(rt; format!(in rt.alloc(); "{error}")?.as_str() == text);
+        assert!(rt; has_text(&rt, rt.alloc(), &error, text));
     }
-    Ok(())
 }
 
 #[test]
-fn errors_of_resolving(rt: HostRuntime) -> Result<(), Fail> {
+fn errors_of_resolving(rt: HostRuntime) {
     let cases = [
         (
             DeserError::UnknownString(InternedString::from_raw(7)),
@@ -130,7 +133,6 @@ fn errors_of_resolving(rt: HostRuntime) -> Result<(), Fail> {
         (DeserError::OutOfMemory, "out of memory"),
     ];
     for (error, text) in cases {
-        assert!(rt; format!(in rt.alloc(); "{error}")?.as_str() == text);
+        assert!(rt; has_text(&rt, rt.alloc(), &error, text));
     }
-    Ok(())
 }

@@ -3,7 +3,8 @@
 use dial9_trace_format::encoder::Schema;
 use dial9_trace_format::schema::FieldDef;
 use dial9_trace_format::types::FieldType;
-use std::alloc::{AllocError, Global};
+use std::alloc::Global;
+use std::process::Abort;
 
 /// A header.
 pub const HEADER: [u8; 5] = [0x54, 0x52, 0x43, 0x00, 0x01];
@@ -30,26 +31,28 @@ pub const THREE_EVENTS: [u8; 40] = [
 ];
 
 /// The definition of one field.
-pub fn one_definition(
+fn one_definition(
+    rt: &impl Abort,
     alloc: Global,
     field: &str,
     field_type: FieldType,
-) -> Result<Vec<FieldDef>, AllocError> {
-    let definition = FieldDef::new(alloc, field, field_type)?;
-    Ok(vec![in alloc; definition]?)
+) -> Vec<FieldDef> {
+    let definition = FieldDef::new(alloc, field, field_type).expect(rt, "memory");
+    vec![in alloc; definition].expect(rt, "memory")
 }
 
 /// A schema of this name with one field.
 pub fn one_field(
+    rt: &impl Abort,
     alloc: Global,
     name: &str,
     field: &str,
     field_type: FieldType,
-) -> Result<Schema, AllocError> {
-    Schema::new(alloc, name, one_definition(alloc, field, field_type)?)
+) -> Schema {
+    Schema::new(alloc, name, one_definition(rt, alloc, field, field_type)).expect(rt, "memory")
 }
 
 /// The schema `Ev`.
-pub fn ev(alloc: Global) -> Result<Schema, AllocError> {
-    one_field(alloc, "Ev", "v", FieldType::Varint)
+pub fn ev(rt: &impl Abort, alloc: Global) -> Schema {
+    one_field(rt, alloc, "Ev", "v", FieldType::Varint)
 }

@@ -9,7 +9,6 @@ use dial9_trace_format::types::EventEncoder;
 use dial9_trace_format::{STATIC_WIRE_ID_LIMIT, TraceEvent};
 use std::alloc::{AllocError, Global};
 use std::process::Abort;
-use std::test::Fail;
 use trace_samples::events::{Annotated, ByName, FastSlot, Nameless};
 
 /// An event of another type, of which no schema can be made.
@@ -63,11 +62,11 @@ fn is_refused<T: TraceEvent>(encoder: &mut Encoder, unmade: &T) -> bool {
 }
 
 /// How many bytes two such events have.
-fn count_of_two<T: TraceEvent>(encoder: &mut Encoder, unmade: &T) -> Result<u64, EncodeError> {
+fn count_of_two<T: TraceEvent>(rt: &impl Abort, encoder: &mut Encoder, unmade: &T) -> u64 {
     let before = Encoder::bytes_written(encoder);
-    put(encoder, unmade)?;
-    put(encoder, unmade)?;
-    Ok(Encoder::bytes_written(encoder).saturating_sub(before))
+    put(encoder, unmade).expect(rt, "no refusal");
+    put(encoder, unmade).expect(rt, "no refusal");
+    Encoder::bytes_written(encoder).saturating_sub(before)
 }
 
 /// Before the type is known the event is refused, and nothing is written; after it two such events are written.
@@ -76,24 +75,23 @@ fn check_known<T: TraceEvent + Drop>(
     alloc: Global,
     unmade: &Unmade<T>,
     length: u64,
-) -> Result<(), Fail> {
-    let mut encoder = fresh(alloc)?;
+) {
+    let mut encoder = fresh(rt, alloc);
     assert!(rt; is_refused(&mut encoder, unmade));
-    put(&mut encoder, &unmade.0)?;
-    assert!(rt; count_of_two(&mut encoder, unmade)? == length);
-    Ok(())
+    put(&mut encoder, &unmade.0).expect(rt, "no refusal");
+    assert!(rt; count_of_two(rt, &mut encoder, unmade) == length);
 }
 
 /// Two types of a slot, and two of a name.
 #[test]
-fn no_schema_of_a_known_type(rt: HostRuntime) -> Result<(), Fail> {
+fn no_schema_of_a_known_type(rt: HostRuntime) {
     assert!(rt; STATIC_WIRE_ID_LIMIT == 256);
     let fast = Unmade(FastSlot { time: 1 });
-    check_known(&rt, rt.alloc(), &fast, 12)?;
+    check_known(&rt, rt.alloc(), &fast, 12);
     let load = Unmade(Annotated { time: 1, load: 2 });
-    check_known(&rt, rt.alloc(), &load, 14)?;
+    check_known(&rt, rt.alloc(), &load, 14);
     let other = Unmade(ByName { time: 1 });
-    check_known(&rt, rt.alloc(), &other, 12)?;
+    check_known(&rt, rt.alloc(), &other, 12);
     let flag = Unmade(Nameless {
         time: 1,
         flag: true,

@@ -4,7 +4,7 @@ use crate::tests::traces::{ONE_EVENT, THREE_EVENTS};
 use dial9_trace_format::codec::WireTypeId;
 use dial9_trace_format::decoder::{DecodedFrame, FeedDecoder};
 use std::alloc::Global;
-use std::test::Fail;
+use std::process::Abort;
 
 /// The event that stands whole at the front has the wire id 256, this time, and values of these bytes.
 fn stands_whole(decoder: &mut FeedDecoder, time: u64, values: &[u8]) -> bool {
@@ -26,15 +26,15 @@ fn passes(decoder: &mut FeedDecoder, place: usize) -> bool {
 }
 
 /// The next frame is the schema, which ends here.
-fn pulls_schema(decoder: &mut FeedDecoder, place: usize) -> Result<bool, Fail> {
-    let frame = decoder.next_frame()?;
-    Ok(matches!(frame, Some(DecodedFrame::Schema(_))) && decoder.position() == place)
+fn pulls_schema(rt: &impl Abort, decoder: &mut FeedDecoder, place: usize) -> bool {
+    let frame = decoder.next_frame().expect(rt, "frames");
+    matches!(frame, Some(DecodedFrame::Schema(_))) && decoder.position() == place
 }
 
 /// No event stands whole once the piece is there.
-fn adds_no_event(decoder: &mut FeedDecoder, piece: &[u8]) -> Result<bool, Fail> {
-    decoder.push(piece)?;
-    Ok(decoder.whole_event().is_none())
+fn adds_no_event(rt: &impl Abort, decoder: &mut FeedDecoder, piece: &[u8]) -> bool {
+    decoder.push(piece).expect(rt, "bytes that are taken");
+    decoder.whole_event().is_none()
 }
 
 /// The trace of one event up to its schema, in pieces, and the first bytes of its event.
@@ -48,29 +48,29 @@ const BEFORE: [&[u8]; 4] = [
 ];
 
 #[test]
-fn an_event_stands_whole(rt: HostRuntime) -> Result<(), Fail> {
+fn an_event_stands_whole(rt: HostRuntime) {
     let mut decoder = FeedDecoder::new(rt.alloc());
     for piece in BEFORE {
-        assert!(rt; adds_no_event(&mut decoder, piece)?);
+        assert!(rt; adds_no_event(&rt, &mut decoder, piece));
     }
-    assert!(rt; pulls_schema(&mut decoder, 19)?);
-    assert!(rt; adds_no_event(&mut decoder, &[])?);
-    decoder.push(&[0x2A])?;
+    assert!(rt; pulls_schema(&rt, &mut decoder, 19));
+    assert!(rt; adds_no_event(&rt, &mut decoder, &[]));
+    decoder.push(&[0x2A]).expect(&rt, "bytes that are taken");
     for _ in 0..2 {
         assert!(rt; stands_whole(&mut decoder, 1_000, &[0x2A]) && decoder.position() == 19);
     }
     assert!(rt; passes(&mut decoder, 26));
-    assert!(rt; decoder.whole_event().is_none() && decoder.next_frame()?.is_none());
-    Ok(())
+    assert!(rt;
+        decoder.whole_event().is_none() && decoder.next_frame().expect(&rt, "frames").is_none()
+    );
 }
 
 #[test]
-fn none_stands_before_the_header_was_read(rt: HostRuntime) -> Result<(), Fail> {
+fn none_stands_before_the_header_was_read(rt: HostRuntime) {
     let mut decoder = FeedDecoder::new(rt.alloc());
-    assert!(rt; adds_no_event(&mut decoder, &ONE_EVENT)?);
-    assert!(rt; pulls_schema(&mut decoder, 19)?);
+    assert!(rt; adds_no_event(&rt, &mut decoder, &ONE_EVENT));
+    assert!(rt; pulls_schema(&rt, &mut decoder, 19));
     assert!(rt; stands_whole(&mut decoder, 1_000, &[0x2A]));
-    Ok(())
 }
 
 /// The events of `THREE_EVENTS`: the bytes of the values of each, and where it ends.
@@ -86,49 +86,51 @@ fn passes_nth(decoder: &mut FeedDecoder, nth: usize) -> bool {
 
 /// Passes what is whole: the schema, and events from this index on. How many events were passed in all, unless
 /// another one stands there.
-fn pass_whole(decoder: &mut FeedDecoder, first: usize) -> Result<Option<usize>, Fail> {
+fn pass_whole(rt: &impl Abort, decoder: &mut FeedDecoder, first: usize) -> Option<usize> {
     let mut count = first;
     for _ in 0..5 {
         if decoder.whole_event().is_some() {
             if !passes_nth(decoder, count) {
-                return Ok(None);
+                return None;
             }
             count = count.saturating_add(1);
-        } else if !pulls_schema(decoder, 18)? {
+        } else if !pulls_schema(rt, decoder, 18) {
             break;
         }
     }
-    Ok(Some(count))
+    Some(count)
 }
 
 /// In pieces of this length all events are passed.
-fn are_passed(alloc: Global, length: usize) -> Result<bool, Fail> {
+fn are_passed(rt: &impl Abort, alloc: Global, length: usize) -> bool {
     let mut decoder = FeedDecoder::new(alloc);
     let mut count: usize = 0;
     for piece in THREE_EVENTS.chunks(length.max(1)) {
-        decoder.push(piece)?;
-        let Some(passed) = pass_whole(&mut decoder, count)? else {
-            return Ok(false);
+        decoder.push(piece).expect(rt, "bytes that are taken");
+        let Some(passed) = pass_whole(rt, &mut decoder, count) else {
+            return false;
         };
         count = passed;
     }
-    Ok(count == 3 && decoder.position() == 40)
+    count == 3 && decoder.position() == 40
 }
 
 #[test]
-fn events_are_passed(rt: HostRuntime) -> Result<(), Fail> {
+fn events_are_passed(rt: HostRuntime) {
     for length in 1..41 {
-        assert!(rt; are_passed(rt.alloc(), length)?);
+        assert!(rt; are_passed(&rt, rt.alloc(), length));
     }
-    Ok(())
 }
 
 #[test]
-fn an_event_is_read_between_two_passed_ones(rt: HostRuntime) -> Result<(), Fail> {
+fn an_event_is_read_between_two_passed_ones(rt: HostRuntime) {
     let mut decoder = FeedDecoder::new(rt.alloc());
-    decoder.push(&THREE_EVENTS)?;
-    assert!(rt; pulls_schema(&mut decoder, 18)? && passes_nth(&mut decoder, 0));
-    assert!(rt; decoder.next_frame()?.is_some() && decoder.position() == 33);
-    assert!(rt; passes_nth(&mut decoder, 2) && decoder.next_frame()?.is_none());
-    Ok(())
+    decoder
+        .push(&THREE_EVENTS)
+        .expect(&rt, "bytes that are taken");
+    assert!(rt; pulls_schema(&rt, &mut decoder, 18) && passes_nth(&mut decoder, 0));
+    assert!(rt; decoder.next_frame().expect(&rt, "frames").is_some() && decoder.position() == 33);
+    assert!(rt;
+        passes_nth(&mut decoder, 2) && decoder.next_frame().expect(&rt, "frames").is_none()
+    );
 }

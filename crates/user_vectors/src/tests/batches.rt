@@ -1,6 +1,5 @@
 //! A worked trace and its batches, by hand after docs/FORMAT.md and docs/DOORS.md.
 
-use std::test::Fail;
 use trace_batch::{read_batch, record_batch};
 
 /// Schema `Ev`, and events of it at 12,000,000 and 24,000,000, the second told from the first.
@@ -23,14 +22,16 @@ const SECOND: [u8; 30] = [
 ];
 
 #[test]
-fn worked_batches(rt: HostRuntime) -> Result<(), Fail> {
-    let first = read_batch(rt.alloc(), &[], &NEAR_TIMES, 1)?;
+fn worked_batches(rt: HostRuntime) {
+    let first = read_batch(rt.alloc(), &[], &NEAR_TIMES, 1).expect(&rt, "no refusal");
     assert!(rt; first.version == 1 && first.events == 1 && first.length == 26);
     assert!(rt; first.batch.as_slice() == FIRST.as_slice() && first.stop.is_none());
-    let second = read_batch(rt.alloc(), &first.state, &NEAR_TIMES[26..], 1)?;
+    let second = read_batch(rt.alloc(), &first.state, &NEAR_TIMES[26..], 1).expect(
+        &rt,
+        "no refusal",
+    );
     assert!(rt; second.version == 1 && second.events == 1 && second.length == 7);
     assert!(rt; second.batch.as_slice() == SECOND.as_slice() && second.stop.is_none());
-    let trace = record_batch(rt.alloc(), &first.batch)?;
+    let trace = record_batch(rt.alloc(), &first.batch).expect(&rt, "no refusal");
     assert!(rt; trace.as_slice() == &NEAR_TIMES[..26]);
-    Ok(())
 }

@@ -3,7 +3,7 @@
 use dial9_trace_format::decoder::{Decoder, TryForEachError};
 use dial9_trace_format::encoder::Encoder;
 use std::alloc::Global;
-use std::test::Fail;
+use std::process::Abort;
 use trace_converter::converter::{ConvertError, Converter};
 use trace_converter::rules::Rule;
 
@@ -46,26 +46,26 @@ const UNKNOWN: [u8; 40] = [
 
 /// What a converter writes of the trace by the rules, and what it answers.
 pub fn converted<'r>(
+    rt: &impl Abort,
     alloc: Global,
     trace: &[u8],
     rules: &'r [Rule<'r>],
-) -> Result<(Vec<u8>, Option<TryForEachError<ConvertError>>), Fail> {
-    let mut decoder = Decoder::new(alloc, trace).ok_or("no header")?;
-    let mut converter = Converter::new(alloc, rules, Encoder::new(alloc)?);
+) -> (Vec<u8>, Option<TryForEachError<ConvertError>>) {
+    let mut decoder = Decoder::new(alloc, trace).expect(rt, "a header");
+    let mut converter = Converter::new(alloc, rules, Encoder::new(alloc).expect(rt, "no refusal"));
     let refused = decoder.try_for_each_event(&mut converter).err();
-    Ok((converter.into_encoder().finish(), refused))
+    (converter.into_encoder().finish(), refused)
 }
 
 #[test]
-fn ids_inside_are_interned_anew(rt: HostRuntime) -> Result<(), Fail> {
-    let (found, refused) = converted(rt.alloc(), &WITH_IDS, &RULES)?;
+fn ids_inside_are_interned_anew(rt: HostRuntime) {
+    let (found, refused) = converted(&rt, rt.alloc(), &WITH_IDS, &RULES);
     assert!(rt; refused.is_none() && found.as_slice() == ANEW.as_slice());
-    Ok(())
 }
 
 #[test]
-fn an_unknown_id_inside_is_refused(rt: HostRuntime) -> Result<(), Fail> {
-    let (found, refused) = converted(rt.alloc(), &UNKNOWN, &RULES)?;
+fn an_unknown_id_inside_is_refused(rt: HostRuntime) {
+    let (found, refused) = converted(&rt, rt.alloc(), &UNKNOWN, &RULES);
     assert!(rt;
         matches!(
             refused,
@@ -73,5 +73,41 @@ fn an_unknown_id_inside_is_refused(rt: HostRuntime) -> Result<(), Fail> {
         )
     );
     assert!(rt; found.as_slice() == &UNKNOWN[..5]);
-    Ok(())
+}
+
+/// An event of the number 7.
+const NUMBER: [u8; 25] = [
+    0x54, 0x52, 0x43, 0x00, 0x01, 0x01, 0x00, 0x01, 0x01, 0x00, b'K', 0x01, 0x01, 0x00, 0x01, 0x00,
+    b'f', 0x09, 0x02, 0x00, 0x01, 0x00, 0x00, 0x00, 0x07,
+];
+
+/// How many bytes are written where a rule keeps the field so often.
+fn count_kept(rt: &impl Abort, alloc: Global, count: usize) -> usize {
+    let mut fields = Vec::new(alloc);
+    for _ in 0..count {
+        fields.push(("f", "g")).expect(rt, "memory");
+    }
+    let rules = [Rule {
+        from: "K",
+        to: "L",
+        slot: 0,
+        fields: &fields,
+    }];
+    let (found, _) = converted(rt, alloc, &NUMBER, &rules);
+    found.len()
+}
+
+/// They are as many as docs/FORMAT.md says.
+fn is_kept(rt: &impl Abort, alloc: Global, count: usize) -> bool {
+    count_kept(rt, alloc, count) == count.saturating_mul(5).saturating_add(20)
+}
+
+#[test]
+fn rules_of_each_count_of_fields(rt: HostRuntime) {
+    for count in 0..301 {
+        assert!(rt; is_kept(&rt, rt.alloc(), count));
+    }
+    for count in [4_096, 4_097, 65_535] {
+        assert!(rt; is_kept(&rt, rt.alloc(), count));
+    }
 }

@@ -1,6 +1,5 @@
 //! Worked traces, and what is cut out of them, by hand after docs/FORMAT.md.
 
-use std::test::Fail;
 use trace_cuts::cut::{cut_of, send_cut};
 use trace_cuts::range::TimeRange;
 
@@ -35,7 +34,7 @@ const SECOND: [u8; 35] = [
 ];
 
 #[test]
-fn worked_cuts(rt: HostRuntime) -> Result<(), Fail> {
+fn worked_cuts(rt: HostRuntime) {
     let rows: [(&[u8], u64, u64, &[u8]); 7] = [
         (&FOUR_TIMES, 0, u64::MAX, &FOUR_TIMES),
         (&FOUR_TIMES, 100_000, 150_000_000, &TWO_OF_FOUR),
@@ -50,15 +49,14 @@ fn worked_cuts(rt: HostRuntime) -> Result<(), Fail> {
             from: *from,
             to: *to,
         };
-        let cut = cut_of(rt.alloc(), bytes, range)?;
+        let cut = cut_of(rt.alloc(), bytes, range).expect(&rt, "no refusal");
         assert!(rt; cut.bytes.as_slice() == *wanted && cut.conflict.is_none());
     }
-    Ok(())
 }
 
 /// With ample memory nothing is refused.
 #[test]
-fn sent_cuts(rt: HostRuntime) -> Result<(), Fail> {
+fn sent_cuts(rt: HostRuntime) {
     for length in [0, 5, 19, 26, 33] {
         let mut out = Vec::new(rt.alloc());
         let range = TimeRange {
@@ -66,8 +64,7 @@ fn sent_cuts(rt: HostRuntime) -> Result<(), Fail> {
             to: u64::MAX,
         };
         let bytes = &NEAR_TIMES[..length];
-        let cut = send_cut(rt.alloc(), bytes, range, &mut out)?;
+        let cut = send_cut(rt.alloc(), bytes, range, &mut out).expect(&rt, "no refusal");
         assert!(rt; out.as_slice() == bytes && cut.length == length);
     }
-    Ok(())
 }

@@ -1,16 +1,17 @@
-//! Traces written by hand after docs/FORMAT.md, and what their events add up to, worked out by hand.
+//! Traces written by hand after docs/FORMAT.md, and what their events add up to, worked out by hand, by a sink.
+//! `gotymbe` counts the same by frames (`runs/stats_rows`).
 
 mod ample;
 
+use crate::tests::made::fields;
 use dial9_trace_format::decoder::{Decoder, EventSink, RawEvent};
-use std::alloc::{AllocError, Global};
-use std::test::Fail;
-use trace_events::event::OwnedEvent;
+use std::alloc::Global;
+use std::process::Abort;
 use trace_stats::schema::SchemaStats;
 use trace_stats::summary::Summary;
 use trace_stats::trace::TraceStats;
 use trace_values::types::FieldType;
-use trace_wire::schema::{FieldDef, SchemaEntry};
+use trace_wire::schema::SchemaEntry;
 
 /// Five events of the I64 field `v`: -3, 5, 0, 4 and the least number.
 const INTEGERS: [u8; 88] = [
@@ -165,115 +166,104 @@ fn is_first_field(
     }
 }
 
+/// The numbers of `INTEGERS` from 0 on.
+const NATURALS: Row<'static> = Row {
+    count: 3,
+    least: Some(0),
+    greatest: Some(5),
+    sum: 9,
+    by_digits: &[(0, 1), (1, 0), (2, 0), (3, 2), (64, 0)],
+};
+
+/// Those below 0, without their signs.
+const NEGATIVES: Row<'static> = Row {
+    count: 2,
+    least: Some(3),
+    greatest: Some(9_223_372_036_854_775_808),
+    sum: 9_223_372_036_854_775_811,
+    by_digits: &[(0, 0), (2, 1), (3, 0), (63, 0), (64, 1)],
+};
+
 #[test]
 fn integers_of_both_signs(rt: HostRuntime) {
-    let naturals = Row {
-        count: 3,
-        least: Some(0),
-        greatest: Some(5),
-        sum: 9,
-        by_digits: &[(0, 1), (1, 0), (2, 0), (3, 2), (64, 0)],
-    };
-    let negatives = Row {
-        count: 2,
-        least: Some(3),
-        greatest: Some(9_223_372_036_854_775_808),
-        sum: 9_223_372_036_854_775_811,
-        by_digits: &[(0, 0), (2, 1), (3, 0), (63, 0), (64, 1)],
-    };
-    assert!(rt; is_first_field(rt.alloc(), &INTEGERS, &naturals, &negatives, &NONE));
+    assert!(rt; is_first_field(rt.alloc(), &INTEGERS, &NATURALS, &NEGATIVES, &NONE));
 }
+
+/// The lengths of the texts of `POOLED_TEXTS`.
+const POOLED: Row<'static> = Row {
+    count: 3,
+    least: Some(2),
+    greatest: Some(6),
+    sum: 14,
+    by_digits: &[(1, 0), (2, 1), (3, 2), (4, 0)],
+};
 
 #[test]
 fn texts_by_pool_id(rt: HostRuntime) {
-    let lengths = Row {
-        count: 3,
-        least: Some(2),
-        greatest: Some(6),
-        sum: 14,
-        by_digits: &[(1, 0), (2, 1), (3, 2), (4, 0)],
-    };
-    assert!(rt; is_first_field(rt.alloc(), &POOLED_TEXTS, &NONE, &NONE, &lengths));
+    assert!(rt; is_first_field(rt.alloc(), &POOLED_TEXTS, &NONE, &NONE, &POOLED));
 }
 
-#[test]
-fn two_events(rt: HostRuntime) {
-    let times = Row {
+/// The times of `TWO_EVENTS`, their bytes, their numbers, and the lengths of their texts.
+const TWO: [Row<'static>; 4] = [
+    Row {
         count: 2,
         least: Some(1_000),
         greatest: Some(3_000),
         sum: 4_000,
         by_digits: &[(9, 0), (10, 1), (11, 0), (12, 1)],
-    };
-    let bytes = Row {
+    },
+    Row {
         count: 2,
         least: Some(BYTES),
         greatest: Some(BYTES),
         sum: 28,
         by_digits: &[(3, 0), (4, 2), (5, 0)],
-    };
-    let numbers = Row {
+    },
+    Row {
         count: 2,
         least: Some(300),
         greatest: Some(18_446_744_073_709_551_615),
         sum: 18_446_744_073_709_551_915,
         by_digits: &[(8, 0), (9, 1), (10, 0), (63, 0), (64, 1)],
-    };
-    let lengths = Row {
+    },
+    Row {
         count: 2,
         least: Some(0),
         greatest: Some(2),
         sum: 2,
         by_digits: &[(0, 1), (1, 0), (2, 1), (3, 0)],
-    };
-    let Some(stats) = stats_of(rt.alloc(), &TWO_EVENTS) else {
-        panic!(rt; "not counted");
-    };
+    },
+];
+
+#[test]
+fn two_events(rt: HostRuntime) {
+    let stats = stats_of(rt.alloc(), &TWO_EVENTS).expect(&rt, "what is counted");
     assert!(rt; stats.fields().len() == 2);
-    assert!(rt; is_row(stats.times(), &times) && is_row(stats.bytes(), &bytes));
-    assert!(rt; is_field(&stats, 0, &numbers, &NONE, &NONE));
-    assert!(rt; is_field(&stats, 1, &NONE, &NONE, &lengths));
+    assert!(rt; is_row(stats.times(), &TWO[0]) && is_row(stats.bytes(), &TWO[1]));
+    assert!(rt; is_field(&stats, 0, &TWO[2], &NONE, &NONE));
+    assert!(rt; is_field(&stats, 1, &NONE, &NONE, &TWO[3]));
 }
 
-/// A schema `E` of so many Varint fields.
-fn wide_schema(alloc: Global, count: usize) -> Result<SchemaEntry, AllocError> {
-    let mut fields = Vec::new(alloc);
-    for _ in 0..count {
-        fields.push(FieldDef::new(alloc, "v", FieldType::Varint)?)?;
-    }
-    SchemaEntry::new(alloc, "E", fields.as_slice())
+/// Of a schema `E` of so many Varint fields nothing is counted yet.
+fn is_wide(rt: &impl Abort, alloc: Global, count: usize) -> bool {
+    let fields = fields(rt, alloc, "v", FieldType::Varint, count);
+    let schema = SchemaEntry::new(alloc, "E", fields.as_slice()).expect(rt, "memory");
+    let stats = SchemaStats::new(alloc, &schema).expect(rt, "memory");
+    stats.schema().name() == "E"
+        && stats.schema().fields().len() == count
+        && stats.fields().len() == count
+        && is_row(stats.times(), &NONE)
 }
 
 /// With ample memory nothing is refused.
 #[test]
-fn wide_schemas(rt: HostRuntime) -> Result<(), Fail> {
+fn wide_schemas(rt: HostRuntime) {
     for count in [0, 1, 256, 4_097] {
-        let schema = wide_schema(rt.alloc(), count)?;
-        let stats = SchemaStats::new(rt.alloc(), &schema)?;
-        assert!(rt; stats.schema().name() == "E" && stats.schema().fields().len() == count);
-        assert!(rt; stats.fields().len() == count && is_row(stats.times(), &NONE));
+        assert!(rt; is_wide(&rt, rt.alloc(), count));
     }
-    Ok(())
 }
 
-/// What the events of a trace add up to, by the frames that a decoder gives.
-fn trace_stats_of(alloc: Global, trace: &[u8]) -> Option<TraceStats> {
-    let mut stats = TraceStats::new(alloc);
-    let mut decoder = Decoder::new(alloc, trace)?;
-    for _ in 0..trace.len() {
-        let frame = decoder.next_frame().ok()??;
-        let (registry, texts) = (decoder.registry(), decoder.string_pool());
-        if let Some(event) = OwnedEvent::of_frame(&frame, registry, texts, decoder.stack_pool()) {
-            stats.add_owned(&event, BYTES).ok()?;
-        }
-        if decoder.position() == trace.len() {
-            return Some(stats);
-        }
-    }
-    None
-}
-
-/// The same, by a sink.
+/// What events of all schemas add up to.
 #[derive(Drop)]
 struct CountingAll {
     stats: TraceStats,
@@ -290,53 +280,54 @@ impl<'a> EventSink<'a, ()> for CountingAll {
     }
 }
 
-/// Whether there are two schemas of one field: `E` with 42 and 7, and `F` with 5.
-fn are_two_schemas(stats: &TraceStats) -> bool {
-    let times = Row {
+/// The times of the schema `E` of `TWO_HEADERS`, its numbers, and those of `F`.
+const HEADERS: [Row<'static>; 3] = [
+    Row {
         count: 2,
         least: Some(1_000),
         greatest: Some(2_000),
         sum: 3_000,
         by_digits: &[(10, 1), (11, 1)],
-    };
-    let numbers = Row {
+    },
+    Row {
         count: 2,
         least: Some(7),
         greatest: Some(42),
         sum: 49,
         by_digits: &[(3, 1), (6, 1)],
-    };
-    let five = Row {
+    },
+    Row {
         count: 1,
         least: Some(5),
         greatest: Some(5),
         sum: 5,
         by_digits: &[(3, 1)],
-    };
+    },
+];
+
+/// Whether there are two schemas of one field: `E` with 42 and 7, and `F` with 5.
+fn are_two_schemas(stats: &TraceStats) -> bool {
     match stats.schemas() {
-        [first, second] => {
-            first.schema().name() == "E"
-                && second.schema().name() == "F"
-                && is_row(first.times(), &times)
-                && is_field(first, 0, &numbers, &NONE, &NONE)
-                && is_field(second, 0, &five, &NONE, &NONE)
-        }
+        [first, second] => first.schema().name() == "E"
+            && second.schema().name() == "F"
+            && is_row(first.times(), &HEADERS[0])
+            && is_field(first, 0, &HEADERS[1], &NONE, &NONE)
+            && is_field(second, 0, &HEADERS[2], &NONE, &NONE),
         _ => false,
     }
 }
 
-#[test]
-fn schemas_across_headers(rt: HostRuntime) {
-    let Some(stats) = trace_stats_of(rt.alloc(), &TWO_HEADERS) else {
-        panic!(rt; "not counted");
-    };
-    assert!(rt; are_two_schemas(&stats));
-    let Some(mut decoder) = Decoder::new(rt.alloc(), &TWO_HEADERS) else {
-        panic!(rt; "no header");
-    };
+/// What the events of a trace add up to.
+fn shown(rt: &impl Abort, alloc: Global, trace: &[u8]) -> TraceStats {
+    let mut decoder = Decoder::new(alloc, trace).expect(rt, "a header");
     let mut counting = CountingAll {
-        stats: TraceStats::new(rt.alloc()),
+        stats: TraceStats::new(alloc),
     };
     assert!(rt; decoder.try_for_each_event(&mut counting).is_ok());
-    assert!(rt; are_two_schemas(&counting.stats));
+    counting.stats
+}
+
+#[test]
+fn schemas_across_headers(rt: HostRuntime) {
+    assert!(rt; are_two_schemas(&shown(&rt, rt.alloc(), &TWO_HEADERS)));
 }

@@ -1,17 +1,17 @@
-//! Traces written by hand after docs/FORMAT.md, and their tables as Python's `csv` and `json` write them.
+//! Traces written by hand after docs/FORMAT.md, and their tables as Python's `csv` and `json` write them, by a sink.
+//! `gotymbe` writes the same tables by frames (`runs/csv_rows`).
 
 mod ample;
 
 use csv::{ByteRecord, Writer, WriterBuilder};
-use dial9_trace_format::decoder::{Decoder, EventSink, FeedDecoder, RawEvent};
+use dial9_trace_format::decoder::{Decoder, EventSink, RawEvent};
 use std::alloc::Global;
-use std::test::Fail;
-use trace_csv::cells::{put_event, put_owned_event};
+use std::process::Abort;
+use trace_csv::cells::put_event;
 use trace_csv::columns::put_columns;
 use trace_csv::files::table_name;
 use trace_csv::manifest::manifest_text;
 use trace_csv::tables::push_table;
-use trace_events::event::OwnedEvent;
 use trace_values::types::FieldType;
 use trace_wire::schema::{FieldDef, SchemaEntry};
 
@@ -110,126 +110,141 @@ impl<'a> EventSink<'a, csv::Error> for Rows {
     }
 }
 
-/// Whether a trace has exactly these rows.
-fn has_rows(alloc: Global, trace: &[u8], wanted: &str) -> bool {
-    let mut rows = Rows {
+/// No rows yet, each of any length.
+fn no_rows(alloc: Global) -> Rows {
+    let text = WriterBuilder::new()
+        .flexible(true)
+        .from_writer(Vec::new(alloc));
+    Rows {
         alloc,
         row: ByteRecord::new(alloc),
-        text: flexible(alloc),
-    };
+        text,
+    }
+}
+
+/// The rows are these.
+fn are_rows(rows: &Rows, wanted: &str) -> bool {
+    rows.text.get_ref().as_slice() == wanted.as_bytes()
+}
+
+/// Whether a trace has exactly these rows.
+fn has_rows(alloc: Global, trace: &[u8], wanted: &str) -> bool {
+    let mut rows = no_rows(alloc);
     let Some(mut decoder) = Decoder::new(alloc, trace) else {
         return false;
     };
-    match decoder.try_for_each_event(&mut rows) {
-        Ok(()) => rows.text.get_ref().as_slice() == wanted.as_bytes(),
-        Err(_) => false,
-    }
-}
-
-/// Whether the frames of a trace that is fed have exactly these rows.
-fn has_owned_rows(alloc: Global, trace: &[u8], wanted: &str) -> bool {
-    let mut decoder = FeedDecoder::new(alloc);
-    let mut row = ByteRecord::new(alloc);
-    let mut text = flexible(alloc);
-    if decoder.push(trace).is_err() {
-        return false;
-    }
-    for _ in 0..trace.len() {
-        let Ok(Some(frame)) = decoder.next_frame() else {
-            break;
-        };
-        let (registry, strings, stacks) = (
-            decoder.registry(),
-            decoder.string_pool(),
-            decoder.stack_pool(),
-        );
-        if let Some(event) = OwnedEvent::of_frame(&frame, registry, strings, stacks) {
-            if put_owned_event(alloc, &mut row, &event).is_err()
-                || text.write_byte_record(&row).is_err()
-            {
-                return false;
-            }
-        }
-    }
-    text.flush().is_ok() && text.get_ref().as_slice() == wanted.as_bytes()
-}
-
-/// A writer of rows of any length.
-fn flexible(alloc: Global) -> Writer<Vec<u8>> {
-    WriterBuilder::new()
-        .flexible(true)
-        .from_writer(Vec::new(alloc))
+    decoder.try_for_each_event(&mut rows).is_ok() && are_rows(&rows, wanted)
 }
 
 #[test]
-fn events(rt: HostRuntime) -> Result<(), Fail> {
+fn events(rt: HostRuntime) {
     let alloc = rt.alloc();
     for (trace, wanted) in ROWS {
-        let trace = hex::decode(alloc, trace)?;
+        let trace = hex::decode(alloc, trace).expect(&rt, "memory");
         assert!(rt; has_rows(alloc, &trace, wanted));
-        assert!(rt; has_owned_rows(alloc, &trace, wanted));
     }
-    Ok(())
 }
 
-/// The names of columns of fields with these names, a `|` after each.
-fn columns(alloc: Global, names: &[&str]) -> Result<String, Fail> {
+/// Fields of these names and these types.
+fn fields_of(rt: &impl Abort, alloc: Global, named: &[(&str, FieldType)]) -> Vec<FieldDef> {
+    let mut fields = Vec::new(alloc);
+    for (name, field_type) in named {
+        let field = FieldDef::new(alloc, name, *field_type).expect(rt, "memory");
+        fields.push(field).expect(rt, "memory");
+    }
+    fields
+}
+
+/// The row of the columns of fields with these names.
+fn column_row(rt: &impl Abort, alloc: Global, names: &[&str]) -> ByteRecord {
     let mut fields = Vec::new(alloc);
     for name in names {
-        fields.push(FieldDef::new(alloc, name, FieldType::Varint)?)?;
+        let field = FieldDef::new(alloc, name, FieldType::Varint).expect(rt, "memory");
+        fields.push(field).expect(rt, "memory");
     }
     let mut row = ByteRecord::new(alloc);
-    put_columns(alloc, &mut row, fields.as_slice())?;
+    put_columns(alloc, &mut row, fields.as_slice()).expect(rt, "memory");
+    row
+}
+
+/// The names of those columns, a `|` after each.
+fn columns(rt: &impl Abort, alloc: Global, names: &[&str]) -> String {
+    let row = column_row(rt, alloc, names);
     let mut text = String::new(alloc);
     for place in 0..row.len() {
         let cell = row.get(place).unwrap_or(b"");
-        text.push_str(str::from_utf8(cell).unwrap_or("?"))?;
-        text.push('|')?;
+        text.push_str(str::from_utf8(cell).unwrap_or("?"))
+            .expect(rt, "memory");
+        text.push('|').expect(rt, "memory");
     }
-    Ok(text)
+    text
+}
+
+/// Names of fields, and of the columns of a table of them.
+const COLUMNS: [(&[&str], &str); 7] = [
+    (&[], "timestamp_ns|"),
+    (&["a", "b"], "timestamp_ns|a|b|"),
+    (&["a", "A", "a"], "timestamp_ns|a|A#2|a#3|"),
+    (&["", ""], "timestamp_ns||#2|"),
+    (&["Timestamp_NS"], "timestamp_ns|Timestamp_NS#1|"),
+    (&["x#2", "x", "x"], "timestamp_ns|#1|x|x#3|"),
+    (&["a\nb", "a\"b", "a\0"], "timestamp_ns|#1|#2|#3|"),
+];
+
+#[test]
+fn names_of_columns(rt: HostRuntime) {
+    for (names, wanted) in COLUMNS {
+        assert!(rt; columns(&rt, rt.alloc(), names).as_str() == wanted);
+    }
+}
+
+/// A number and the name of a schema, and the name of its table.
+const TABLES: [(u64, &str, &str); 5] = [
+    (1, "Poll_2-x", "1-Poll_2-x"),
+    (12, "../etc/passwd", "12-etcpasswd"),
+    (0, "a\0b\n\u{e9}c", "0-abc"),
+    (18446744073709551615, "", "18446744073709551615-"),
+    (
+        7,
+        "0123456789012345678901234567890123456789012345678901234567890123456789",
+        "7-0123456789012345678901234567890123456789012345678901234567890123",
+    ),
+];
+
+#[test]
+fn names_of_tables(rt: HostRuntime) {
+    for (number, name, wanted) in TABLES {
+        let found = table_name(rt.alloc(), number, name).expect(&rt, "memory");
+        assert!(rt; found.as_str() == wanted);
+    }
+}
+
+/// The manifest of a table of so many rows, of a schema of these fields, is this one.
+fn is_manifest(
+    rt: &impl Abort,
+    alloc: Global,
+    names: (&str, &str),
+    fields: &[FieldDef],
+    rows: u64,
+    wanted: &str,
+) -> bool {
+    let (table, schema) = names;
+    let schema = SchemaEntry::new(alloc, schema, fields).expect(rt, "memory");
+    let text = manifest_text(alloc, table, &schema, rows).expect(rt, "memory");
+    text.as_slice() == wanted.as_bytes()
 }
 
 #[test]
-fn names_of_columns(rt: HostRuntime) -> Result<(), Fail> {
+fn texts_of_manifests(rt: HostRuntime) {
     let alloc = rt.alloc();
-    assert!(rt; columns(alloc, &[])?.as_str() == "timestamp_ns|");
-    assert!(rt; columns(alloc, &["a", "b"])?.as_str() == "timestamp_ns|a|b|");
-    assert!(rt; columns(alloc, &["a", "A", "a"])?.as_str() == "timestamp_ns|a|A#2|a#3|");
-    assert!(rt; columns(alloc, &["", ""])?.as_str() == "timestamp_ns||#2|");
-    assert!(rt; columns(alloc, &["Timestamp_NS"])?.as_str() == "timestamp_ns|Timestamp_NS#1|");
-    assert!(rt; columns(alloc, &["x#2", "x", "x"])?.as_str() == "timestamp_ns|#1|x|x#3|");
-    assert!(rt; columns(alloc, &["a\nb", "a\"b", "a\0"])?.as_str() == "timestamp_ns|#1|#2|#3|");
-    Ok(())
-}
-
-#[test]
-fn names_of_tables(rt: HostRuntime) -> Result<(), Fail> {
-    let alloc = rt.alloc();
-    assert!(rt; table_name(alloc, 1, "Poll_2-x")?.as_str() == "1-Poll_2-x");
-    assert!(rt; table_name(alloc, 12, "../etc/passwd")?.as_str() == "12-etcpasswd");
-    assert!(rt; table_name(alloc, 0, "a\0b\n\u{e9}c")?.as_str() == "0-abc");
-    assert!(rt; table_name(alloc, 18446744073709551615, "")?.as_str() == "18446744073709551615-");
-    let long = "0123456789012345678901234567890123456789012345678901234567890123456789";
-    assert!(rt;
-        table_name(alloc, 7, long)?.as_str()
-            == "7-0123456789012345678901234567890123456789012345678901234567890123"
+    let fields = fields_of(
+        &rt,
+        alloc,
+        &[("worker", FieldType::Varint), ("a\nb\0\"", FieldType::Bool)],
     );
-    Ok(())
-}
-
-#[test]
-fn texts_of_manifests(rt: HostRuntime) -> Result<(), Fail> {
-    let alloc = rt.alloc();
-    let mut fields = Vec::new(alloc);
-    fields.push(FieldDef::new(alloc, "worker", FieldType::Varint)?)?;
-    fields.push(FieldDef::new(alloc, "a\nb\0\"", FieldType::Bool)?)?;
-    let schema = SchemaEntry::new(alloc, "../P", fields.as_slice())?;
-    let text = manifest_text(alloc, "1-P", &schema, 18446744073709551615)?;
-    assert!(rt; text.as_slice() == MANIFEST.as_bytes());
-    let schema = SchemaEntry::new(alloc, "", &[])?;
-    let text = manifest_text(alloc, "2-", &schema, 0)?;
-    assert!(rt; text.as_slice() == EMPTY.as_bytes());
-    Ok(())
+    let names = ("1-P", "../P");
+    assert!(rt; is_manifest(&rt, alloc, names, &fields, 18446744073709551615, MANIFEST));
+    assert!(rt; is_manifest(&rt, alloc, ("2-", ""), &[], 0, EMPTY));
 }
 
 const EMPTY: &str = "{\"table\":\"2-\",\"schema\":\"\",\"rows\":0,\"fields\":[]}";
@@ -237,19 +252,21 @@ const EMPTY: &str = "{\"table\":\"2-\",\"schema\":\"\",\"rows\":0,\"fields\":[]}
 const MANIFEST: &str = "{\"table\":\"1-P\",\"schema\":\"../P\",\"rows\":18446744073709551615,\
                         \"fields\":[\"worker\",\"a\\nb\\u0000\\\"\"]}";
 
+/// The fields of a table.
+const FIELDS: [(&str, FieldType); 5] = [
+    ("n", FieldType::U16),
+    ("i", FieldType::OptionalI64),
+    ("f", FieldType::F64),
+    ("b", FieldType::Bool),
+    ("t", FieldType::PooledString),
+];
+
 #[test]
-fn texts_of_tables(rt: HostRuntime) -> Result<(), Fail> {
-    let alloc = rt.alloc();
-    let mut fields = Vec::new(alloc);
-    fields.push(FieldDef::new(alloc, "n", FieldType::U16)?)?;
-    fields.push(FieldDef::new(alloc, "i", FieldType::OptionalI64)?)?;
-    fields.push(FieldDef::new(alloc, "f", FieldType::F64)?)?;
-    fields.push(FieldDef::new(alloc, "b", FieldType::Bool)?)?;
-    fields.push(FieldDef::new(alloc, "t", FieldType::PooledString)?)?;
-    let mut text = String::new(alloc);
-    push_table(alloc, &mut text, "1-Ev", fields.as_slice())?;
+fn texts_of_tables(rt: HostRuntime) {
+    let fields = fields_of(&rt, rt.alloc(), &FIELDS);
+    let mut text = String::new(rt.alloc());
+    push_table(rt.alloc(), &mut text, "1-Ev", fields.as_slice()).expect(&rt, "memory");
     assert!(rt; text.as_str() == TABLE);
-    Ok(())
 }
 
 const TABLE: &str =

@@ -1,12 +1,19 @@
 //! The texts of errors of the crates beside the library.
 
+use std::alloc::Global;
+use std::fmt::Display;
 use std::io::ErrorKind;
-use std::test::Fail;
+use std::process::Abort;
 use trace_cuts::cut::CutError;
 use trace_folded::tally::FoldError;
 use trace_fronts::salvaging::SalvageError;
 use trace_stats::full::Full;
 use trace_stats::trace::StatsError;
+
+/// The error is printed so.
+fn has_text(rt: &impl Abort, alloc: Global, error: &impl Display, text: &str) -> bool {
+    format!(in alloc; "{error}").expect(rt, "memory").as_str() == text
+}
 
 const SAVING: [(SalvageError, &str); 2] = [
     (SalvageError::OutOfMemory, "out of memory"),
@@ -14,11 +21,10 @@ const SAVING: [(SalvageError, &str); 2] = [
 ];
 
 #[test]
-fn errors_of_saving(rt: HostRuntime) -> Result<(), Fail> {
+fn errors_of_saving(rt: HostRuntime) {
     for (error, text) in SAVING {
-        assert!(rt; format!(in rt.alloc(); "{error}")?.as_str() == text);
+        assert!(rt; has_text(&rt, rt.alloc(), &error, text));
     }
-    Ok(())
 }
 
 const CUTTING: [(CutError, &str); 2] = [
@@ -27,11 +33,10 @@ const CUTTING: [(CutError, &str); 2] = [
 ];
 
 #[test]
-fn errors_of_cutting(rt: HostRuntime) -> Result<(), Fail> {
+fn errors_of_cutting(rt: HostRuntime) {
     for (error, text) in CUTTING {
-        assert!(rt; format!(in rt.alloc(); "{error}")?.as_str() == text);
+        assert!(rt; has_text(&rt, rt.alloc(), &error, text));
     }
-    Ok(())
 }
 
 const COUNTING: [(StatsError, &str); 2] = [
@@ -40,12 +45,11 @@ const COUNTING: [(StatsError, &str); 2] = [
 ];
 
 #[test]
-fn errors_of_counting(rt: HostRuntime) -> Result<(), Fail> {
+fn errors_of_counting(rt: HostRuntime) {
     for (error, text) in COUNTING {
-        assert!(rt; format!(in rt.alloc(); "{error}")?.as_str() == text);
+        assert!(rt; has_text(&rt, rt.alloc(), &error, text));
     }
-    assert!(rt; format!(in rt.alloc(); "{Full}")?.as_str() == "too many to count");
-    Ok(())
+    assert!(rt; has_text(&rt, rt.alloc(), &Full, "too many to count"));
 }
 
 const FOLDING: [(FoldError, &str); 2] = [
@@ -54,9 +58,8 @@ const FOLDING: [(FoldError, &str); 2] = [
 ];
 
 #[test]
-fn errors_of_folding(rt: HostRuntime) -> Result<(), Fail> {
+fn errors_of_folding(rt: HostRuntime) {
     for (error, text) in FOLDING {
-        assert!(rt; format!(in rt.alloc(); "{error}")?.as_str() == text);
+        assert!(rt; has_text(&rt, rt.alloc(), &error, text));
     }
-    Ok(())
 }

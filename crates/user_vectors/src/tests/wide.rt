@@ -15,7 +15,7 @@ use dial9_trace_format::{
     EventEncoder, InternedStackFrames, InternedString, TraceEvent, TraceFields,
 };
 use std::alloc::Global;
-use std::test::Fail;
+use std::process::Abort;
 use trace_converter::rules::Rule;
 use trace_values::fields;
 
@@ -232,13 +232,15 @@ fn event_of_many(alloc: Global, text: InternedString, stack: InternedStackFrames
 }
 
 /// A trace of the text `y`, the text `x`, the stack of 7, and that event with the second text.
-fn trace(alloc: Global) -> Result<Vec<u8>, EncodeError> {
-    let mut encoder = Encoder::new(alloc)?;
-    encoder.intern_string("y")?;
-    let text = encoder.intern_string("x")?;
-    let stack = encoder.intern_stack_frames(&[7])?;
-    encoder.write(&event_of_many(alloc, text, stack))?;
-    Ok(encoder.finish())
+fn trace(rt: &impl Abort, alloc: Global) -> Vec<u8> {
+    let mut encoder = Encoder::new(alloc).expect(rt, "no refusal");
+    encoder.intern_string("y").expect(rt, "no refusal");
+    let text = encoder.intern_string("x").expect(rt, "no refusal");
+    let stack = encoder.intern_stack_frames(&[7]).expect(rt, "no refusal");
+    encoder
+        .write(&event_of_many(alloc, text, stack))
+        .expect(rt, "no refusal");
+    encoder.finish()
 }
 
 /// The first number, the last text of the pool, and the last field of all.
@@ -258,9 +260,8 @@ const WANTED: [u8; 52] = [
 ];
 
 #[test]
-fn three_of_many_fields(rt: HostRuntime) -> Result<(), Fail> {
-    let trace = trace(rt.alloc())?;
-    let (found, refused) = converted(rt.alloc(), &trace, &RULES)?;
+fn three_of_many_fields(rt: HostRuntime) {
+    let trace = trace(&rt, rt.alloc());
+    let (found, refused) = converted(&rt, rt.alloc(), &trace, &RULES);
     assert!(rt; refused.is_none() && found.as_slice() == WANTED.as_slice());
-    Ok(())
 }

@@ -104,79 +104,74 @@ fn main() {
                 }
             }
         }
-        // time K EVENTS
+        // time K EVENTS [WORD]
         _ => {
-            let k: usize = a[1].parse().unwrap();
-            let n: u64 = a[2].parse().unwrap();
+            let (k, n): (usize, u64) = (a[1].parse().unwrap(), a[2].parse().unwrap());
             let only = a.get(3).cloned().unwrap_or_default();
-            let row = |name: &str, per: f64, (o, p): (f64, f64)| {
-                println!(
-                    "{name:34} original {:8.1} ns  library {:8.1} ns  ratio {:5.2}",
-                    o / per * 1e9,
-                    p / per * 1e9,
-                    p / o
-                )
-            };
-            for (w, name) in more::WORKS.iter().enumerate() {
-                let w = w as u32;
-                let m = if *name == "text64k" {
-                    n / 400 + 1
-                } else if ["f64", "text1k", "stack128", "list100", "small10", "reset10", "spool64"].contains(name) {
-                    n / 20 + 1
-                } else {
-                    n / 2
-                };
-                let per = m as f64 * if *name == "spool64" { 64.0 } else { 1.0 };
-                if format!("write {name}").contains(&only) {
-                    row(
-                        &format!("write {name}"),
-                        per,
-                        both(k, || more::written(w, m).len() as u64, || unsafe { port_x_write(w, m, 0) }),
-                    );
-                }
-            }
+            time_writing(k, n, &only);
             for name in ["varint3", "stacks", "nested", "pooled", "fixed", "smap", "list100", "stack128", "f16"] {
-                let m = n / 20 + 1;
-                let data = any(name, m);
-                for (form, way) in more::READS.iter().enumerate() {
-                    let label = format!("{way} {name}");
-                    if !label.contains(&only)
-                        || ["into_encoder", "open+sink"].contains(way)
-                        || *way == "resolve" && ["fixed", "pooled"].contains(&name)
-                    {
-                        continue;
-                    }
-                    let form = form as u32;
-                    let ways = |turns: u64| {
-                        both(
-                            k,
-                            || more::read(form, turns, &data),
-                            || unsafe { port_x_read(form, turns, data.as_ptr(), data.len()) },
-                        )
-                    };
-                    // (what decoding takes is taken off where frames are decoded first)
-                    let decoded_first = (3..7).contains(&form);
-                    let (with, without) = if decoded_first { (ways(5), ways(1)) } else { (ways(1), (0.0, 0.0)) };
-                    row(
-                        &label,
-                        (m * if decoded_first { 4 } else { 1 }) as f64,
-                        (with.0 - without.0, with.1 - without.1),
-                    );
-                }
+                time_ways(k, n / 20 + 1, name, &only);
             }
             for (form, f) in more::FORMS.iter().enumerate() {
                 for (kind, name) in more::KINDS.iter().enumerate() {
                     let (form, kind, label) = (form as u32, kind as u32, format!("{f} alone {name}"));
                     if label.contains(&only) {
                         let turns = n / 640 + 1;
-                        row(
-                            &label,
-                            (turns * more::COPIES) as f64,
-                            both(k, || more::alone(form, kind, turns), || unsafe { port_x_alone(form, kind, turns) }),
-                        );
+                        let ways = |turns: u64| {
+                            both(k, || more::alone(form, kind, turns), || unsafe { port_x_alone(form, kind, turns) })
+                        };
+                        // (what it takes to make the values is taken off)
+                        ways(5 * turns).beyond(ways(turns)).told(&label, (4 * turns * more::COPIES) as f64);
                     }
                 }
             }
+        }
+    }
+}
+
+/// Times the workloads of writing that have the word in their name.
+fn time_writing(k: usize, n: u64, only: &str) {
+    for (w, name) in more::WORKS.iter().enumerate() {
+        let w = w as u32;
+        let m = if *name == "text64k" {
+            n / 400 + 1
+        } else if ["f64", "text1k", "stack128", "list100", "small10", "reset10", "spool64"].contains(name) {
+            n / 20 + 1
+        } else {
+            n / 2
+        };
+        let label = format!("write {name}");
+        if label.contains(only) {
+            both(k, || more::written(w, m).len() as u64, || unsafe { port_x_write(w, m, 0) })
+                .told(&label, m as f64 * if *name == "spool64" { 64.0 } else { 1.0 });
+        }
+    }
+}
+
+/// Times the ways of reading a trace of so many events that have the word in their name.
+fn time_ways(k: usize, events: u64, name: &str, only: &str) {
+    let data = any(name, events);
+    for (form, way) in more::READS.iter().enumerate() {
+        let label = format!("{way} {name}");
+        if !label.contains(only)
+            || ["into_encoder", "open+sink"].contains(way)
+            || *way == "resolve" && ["fixed", "pooled"].contains(&name)
+        {
+            continue;
+        }
+        let form = form as u32;
+        let ways = |turns: u64| {
+            both(
+                k,
+                || more::read(form, turns, &data),
+                || unsafe { port_x_read(form, turns, data.as_ptr(), data.len()) },
+            )
+        };
+        if (3..7).contains(&form) {
+            // (what decoding takes is taken off where frames are decoded first)
+            ways(5).beyond(ways(1)).told(&label, 4.0 * events as f64);
+        } else {
+            ways(1).told(&label, events as f64);
         }
     }
 }

@@ -1,4 +1,4 @@
-use Rattle.std.proofs.Common.{ap, ◌∙◌, inl, inr, refl, arith, List, ◌∷◌, ◌++◌, []}
+use Rattle.std.proofs.Common.{inl, inr, refl, arith}
 use Rattle.std.proofs.lemmas.Result.{err_from_is_err_and}
 use Rattle.trace_values.specs.declared.types.field_value.FieldValue.{FieldValue}
 use Rattle.trace_values.proofs.RefSizes.{key_ref_in, ref_in, value_holds_ref_pairs, value_holds_refs, value_ref_in}
@@ -39,11 +39,9 @@ converted_items-loop-item-preserved g t c =
     record {
       so_far =
           ((item_converted g.W.TraceWrite.told (shown_event c.args.event.now).pools c.args.items.now l.item-index
-          c.item-item.result l.values.items w c.push_reserved.new.self.items) c.args.encoder.now l.encoder
-          c.converted.new.encoder)
-          c.loop-item-test.true c.item-item.is
-          (c.push_reserved.ensures.items
-          ∙ ap (λ (vs : List FieldValue). vs ++ w ∷ []) c.in_ok-reserve.ensures.items)
+          c.item-item.result l.values.items w c.reserve.new.self.items c.push_reserved.new.self.items)
+          c.args.encoder.now l.encoder c.converted.new.encoder)
+          c.loop-item-test.true c.item-item.is c.push_reserved.ensures.items c.in_ok-reserve.ensures.items
           l.invariant.so_far c.in_ok-value.ensures.converted;
     }
 
@@ -81,11 +79,9 @@ converted_pairs-loop-pair-preserved g t c =
     record {
       so_far =
           ((pair_converted g.W.TraceWrite.told (shown_event c.args.event.now).pools c.args.pairs.now l.pair-index
-          c.pair-item.result l.values.items w c.push_reserved.new.self.items) c.args.encoder.now l.encoder
-          c.converted.new.encoder c.converted-in-loop-pair.new.encoder)
-          c.loop-pair-test.true c.pair-item.is
-          (c.push_reserved.ensures.items
-          ∙ ap (λ (vs : List (FieldValue × FieldValue)). vs ++ w ∷ []) c.in_ok-reserve.ensures.items)
+          c.pair-item.result l.values.items w c.reserve.new.self.items c.push_reserved.new.self.items)
+          c.args.encoder.now l.encoder c.converted.new.encoder c.converted-in-loop-pair.new.encoder)
+          c.loop-pair-test.true c.pair-item.is c.push_reserved.ensures.items c.in_ok-reserve.ensures.items
           l.invariant.so_far c.in_ok-key.ensures.converted c.in_ok-value.ensures.converted;
     }
 

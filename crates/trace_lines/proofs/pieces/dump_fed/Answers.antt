@@ -1,6 +1,6 @@
 use Rattle.std.proofs.Common.{arith}
-use Rattle.trace_lines.proofs.PiecesSent.{all_dumped, dumped_unsettled, read_dumped, reads_within}
-use Rattle.trace_lines.proofs.PiecesSent.{status_known}
+use Rattle.trace_lines.proofs.DumpSoFar.{all_dumped, dumped_unsettled, read_dumped, reads_within}
+use Rattle.trace_lines.proofs.DumpSoFar.{status_known}
 use Rattle.trace_lines.proofs.pieces.dump_fed.Goals as goal
 
 pub returns-in-Ok-settle-clause-lines : goal.returns-in-Ok-settle-clause-lines

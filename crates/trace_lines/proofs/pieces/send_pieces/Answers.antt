@@ -1,7 +1,7 @@
 use Rattle.std.proofs.Common.{arith}
 use Rattle.trace_lines.proofs.PieceLines.{new_waits}
-use Rattle.trace_lines.proofs.PiecesSent.{nothing_sent, nothing_read, read_none, read_to_end, piece_failed}
-use Rattle.trace_lines.proofs.PiecesSent.{piece_ends, piece_goes_on, front_so_far}
+use Rattle.trace_lines.proofs.DumpSoFar.{nothing_sent, nothing_read, read_none, read_to_end, piece_failed}
+use Rattle.trace_lines.proofs.DumpSoFar.{piece_ends, piece_goes_on, front_so_far}
 use Rattle.trace_lines.proofs.pieces.send_pieces.Goals as goal
 use Rattle.trace_lines.proofs.pieces.send_pieces.Goals.{in-Ok+in_ok-status-in-Ok+in_default, in-Err+else-ne}
 

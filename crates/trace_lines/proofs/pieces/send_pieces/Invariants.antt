@@ -1,4 +1,4 @@
-use Rattle.trace_lines.proofs.PiecesSent.{SentSoFar}
+use Rattle.trace_lines.proofs.DumpSoFar.{SentSoFar}
 use Rattle.trace_lines.proofs.pieces.send_pieces.Given as goal
 
 abbrev pub invariant-reads : goal.invariant-reads

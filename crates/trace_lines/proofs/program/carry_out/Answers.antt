@@ -4,7 +4,7 @@ use Rattle.trace_lines.specs.declared.program.Task.{Task}
 use Rattle.trace_lines.specs.declared.program.Task.TheVariants.{Dump, Resolve}
 use Rattle.trace_lines.specs.parts.Program.{resolves, DumpsFront}
 use Rattle.trace_lines.specs.Program.{DumpsAll}
-use Rattle.trace_lines.proofs.PiecesSent.{nothing_dumped}
+use Rattle.trace_lines.proofs.DumpSoFar.{nothing_dumped}
 use Rattle.trace_lines.proofs.program.carry_out.Goals as goal
 
 pub returns-in-Usage : goal.returns-in-Usage

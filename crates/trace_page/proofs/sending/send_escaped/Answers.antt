@@ -1,6 +1,6 @@
 use Rattle.std.proofs.Common.{arith}
 use Rattle.std.proofs.lemmas.Grind.{common_steps}
-use Rattle.trace_page.proofs.SentPieces.{escaped_next}
+use Rattle.trace_page.proofs.EscapedSends.{escaped_next}
 use Rattle.trace_page.proofs.RefusedPages.{growth_refused, piece_refused}
 use Rattle.trace_page.proofs.sending.send_escaped.Goals as goal
 

@@ -1,6 +1,6 @@
 use Rattle.std.proofs.Common.{◌++◌}
 use Rattle.trace_page.specs.Escaping.{escaped}
-use Rattle.trace_page.proofs.SentPieces.{three_sent}
+use Rattle.trace_page.proofs.EscapedSends.{three_sent}
 use Rattle.trace_page.proofs.RefusedPages.{head_refused, data_refused, tail_refused}
 use Rattle.trace_page.proofs.sending.send_page.Goals as goal
 

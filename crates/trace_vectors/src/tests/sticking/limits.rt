@@ -3,8 +3,8 @@
 use crate::tests::sticking::{NUMBERS, event_of, shows};
 use crate::tests::traces::HEADER;
 use dial9_trace_format::decoder::{DecodeErrorKind, FeedDecoder};
-use std::alloc::{AllocError, Global};
-use std::test::Fail;
+use std::alloc::Global;
+use std::process::Abort;
 
 /// The tag of a field's type, the bytes of the field, and where in the event its last byte shows that no frame comes.
 type Row = (u8, &'static [u8], usize);
@@ -76,96 +76,92 @@ fn schema_of(tag: u8) -> [u8; 14] {
 }
 
 /// With the last byte no frame comes of the event, by its field, which shows here.
-fn shows_field(alloc: Global, tag: u8, event: &[u8], place: usize) -> Result<bool, Fail> {
+fn shows_field(rt: &impl Abort, alloc: Global, tag: u8, event: &[u8], place: usize) -> bool {
     let schema = schema_of(tag);
     let kind = DecodeErrorKind::TruncatedValue;
-    shows(alloc, &schema, event, kind, place)
+    shows(rt, alloc, &schema, event, kind, place)
 }
 
 #[test]
-fn counts_past_their_limit(rt: HostRuntime) -> Result<(), Fail> {
+fn counts_past_their_limit(rt: HostRuntime) {
     for (tag, field, place) in COUNTS {
-        let event = event_of(rt.alloc(), field)?;
-        assert!(rt; shows_field(rt.alloc(), tag, event.as_slice(), place)?);
+        let event = event_of(&rt, rt.alloc(), field);
+        assert!(rt; shows_field(&rt, rt.alloc(), tag, event.as_slice(), place));
     }
-    Ok(())
 }
 
 /// Fed byte by byte, a frame may come of the event all along; so much was read then.
-fn may_come(alloc: Global, tag: u8, event: &[u8], place: usize) -> Result<bool, Fail> {
+fn may_come(rt: &impl Abort, alloc: Global, tag: u8, event: &[u8], place: usize) -> bool {
     let mut decoder = FeedDecoder::new(alloc);
-    decoder.feed(&HEADER)?;
-    decoder.feed(&schema_of(tag))?;
+    decoder.feed(&HEADER).expect(rt, "frames");
+    decoder.feed(&schema_of(tag)).expect(rt, "frames");
     for piece in event.chunks(1) {
-        decoder.feed(piece)?;
+        decoder.feed(piece).expect(rt, "frames");
         if decoder.stuck().is_some() {
-            return Ok(false);
+            return false;
         }
     }
-    Ok(decoder.position() == place)
+    decoder.position() == place
 }
 
 #[test]
-fn counts_that_may_come(rt: HostRuntime) -> Result<(), Fail> {
+fn counts_that_may_come(rt: HostRuntime) {
     for (tag, field) in WAITED_FOR {
-        let event = event_of(rt.alloc(), field)?;
-        assert!(rt; may_come(rt.alloc(), tag, event.as_slice(), 19)?);
+        let event = event_of(&rt, rt.alloc(), field);
+        assert!(rt; may_come(&rt, rt.alloc(), tag, event.as_slice(), 19));
     }
-    Ok(())
 }
 
 /// The front of an event up to the tag of a value that stands in so many of these, one in the other.
-fn nested(alloc: Global, holder: Holder, depth: usize) -> Result<Vec<u8>, AllocError> {
+fn nested(rt: &impl Abort, alloc: Global, holder: Holder, depth: usize) -> Vec<u8> {
     let (tag, before, _) = holder;
-    let mut bytes = event_of(alloc, before)?;
+    let mut bytes = event_of(rt, alloc, before);
     for _ in 1..depth {
-        bytes.push(tag)?;
-        bytes.extend_from_slice(before)?;
+        bytes.push(tag).expect(rt, "memory");
+        bytes.extend_from_slice(before).expect(rt, "memory");
     }
-    Ok(bytes)
+    bytes
 }
 
 /// A list or a map of this type at depth 32 holds nothing, as its count shows.
-fn is_too_deep(alloc: Global, holder: Holder, held: u8, count: [u8; 4]) -> Result<bool, Fail> {
+fn is_too_deep(rt: &impl Abort, alloc: Global, holder: Holder, held: u8, count: [u8; 4]) -> bool {
     let (tag, _, _) = holder;
-    let mut event = nested(alloc, holder, 32)?;
-    event.push(held)?;
+    let mut event = nested(rt, alloc, holder, 32);
+    event.push(held).expect(rt, "memory");
     let place = event.len();
-    event.extend_from_slice(&count)?;
-    shows_field(alloc, tag, event.as_slice(), place)
+    event.extend_from_slice(&count).expect(rt, "memory");
+    shows_field(rt, alloc, tag, event.as_slice(), place)
 }
 
 #[test]
-fn items_at_depth_33(rt: HostRuntime) -> Result<(), Fail> {
+fn items_at_depth_33(rt: HostRuntime) {
     for holder in HOLDERS {
         for held in HELD {
             for count in SOME {
-                assert!(rt; is_too_deep(rt.alloc(), holder, held, count)?);
+                assert!(rt; is_too_deep(&rt, rt.alloc(), holder, held, count));
             }
         }
     }
-    Ok(())
 }
 
 /// An empty list, map or map of texts at depth 32 stands, and the event is read.
-fn is_deep(alloc: Global, holder: Holder, held: u8) -> Result<bool, Fail> {
+fn is_deep(rt: &impl Abort, alloc: Global, holder: Holder, held: u8) -> bool {
     let (tag, _, after) = holder;
-    let mut event = nested(alloc, holder, 32)?;
-    event.push(held)?;
-    event.extend_from_slice(&[0; 4])?;
+    let mut event = nested(rt, alloc, holder, 32);
+    event.push(held).expect(rt, "memory");
+    event.extend_from_slice(&[0; 4]).expect(rt, "memory");
     for _ in 0..32 {
-        event.extend_from_slice(after)?;
+        event.extend_from_slice(after).expect(rt, "memory");
     }
     let place = event.len().saturating_add(19);
-    may_come(alloc, tag, event.as_slice(), place)
+    may_come(rt, alloc, tag, event.as_slice(), place)
 }
 
 #[test]
-fn values_at_depth_32(rt: HostRuntime) -> Result<(), Fail> {
+fn values_at_depth_32(rt: HostRuntime) {
     for holder in HOLDERS {
         for held in [0x0A, 0x0E, 0x0F] {
-            assert!(rt; is_deep(rt.alloc(), holder, held)?);
+            assert!(rt; is_deep(&rt, rt.alloc(), holder, held));
         }
     }
-    Ok(())
 }

@@ -1,0 +1,4 @@
+pub mod Calls
+pub mod Clocks
+pub mod Failures
+pub mod Reading
