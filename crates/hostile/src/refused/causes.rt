@@ -35,9 +35,13 @@ impl<'b> EventSink<'b, ()> for Taking {
     }
 }
 
-/// Asks for the cause at every cut of a trace.
+/// A trace that is cut at every place has fewer bytes than this.
+const LONG: usize = 400;
+
+/// Asks for the cause at every cut of a trace, and at the last one alone where it is long.
 pub fn sweep_causes(alloc: Global, bytes: &[u8], counts: &mut Counts) -> Result<(), AllocError> {
-    for place in HEADER..bytes.len() {
+    let first = if bytes.len() < LONG { HEADER } else { bytes.len() - 1 };
+    for place in first..bytes.len() {
         sweep_cause(alloc, &bytes[..place], counts)?;
     }
     Ok(())
