@@ -24,3 +24,4 @@ mod SentParts
 mod SpelledParts
 mod TextRuns
 mod PiecesHeld
+mod TextIds

@@ -10,3 +10,4 @@ pub mod SentLines
 pub mod LineLaws
 pub mod SpelledLines
 pub mod NextLines
+pub mod Listed

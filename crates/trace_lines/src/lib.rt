@@ -6,6 +6,7 @@ pub mod dump;
 mod entries;
 mod growing;
 pub mod lines;
+mod listed;
 pub mod pieces;
 mod plain;
 mod pooled;

@@ -10,7 +10,7 @@ ghost use Rattle.trace_lines.specs.parts.EventLines.{event_as};
 
 use crate::resolved::{LineEvent, line_event, owned_line_event};
 use crate::sent_lines::{ENOUGH, LineFault, Lines};
-use crate::value::LineValue;
+use crate::value::FieldLine;
 use dial9_trace_format::decoder::RawEvent;
 use std::alloc::{AllocError, Global};
 use std::mem;
@@ -75,7 +75,7 @@ impl GrowingLines {
     }
 
     // The same of an event as its line shows it.
-    fn send_line<V: LineValue, W: TraceWrite>(
+    fn send_line<V: FieldLine, W: TraceWrite>(
         &mut self,
         alloc: Global,
         out: &mut W,
@@ -93,7 +93,7 @@ impl GrowingLines {
     }
 
     // Holds a text and the line of an event, but for a front that was sent.
-    fn hold_line<V: LineValue, W: TraceWrite>(
+    fn hold_line<V: FieldLine, W: TraceWrite>(
         &mut self,
         alloc: Global,
         out: &mut W,

@@ -1,18 +1,22 @@
 //! Lines that are held before they are sent, and sent as they grow.
 
 ghost use Rattle.std.specs.Prelude.{◌≡◌, [], ◌++◌, string_bytes};
+ghost use Rattle.std.proofs.Common.{refl};
+ghost use Rattle.dial9_trace_format.specs.LongEvents.{long_event};
 ghost use Rattle.dial9_trace_format.specs.ShownEvents.{shown_event};
 ghost use Rattle.trace_lines.specs.Lines.{line};
 ghost use Rattle.trace_lines.specs.ResolvedLines.{resolved_line};
 ghost use Rattle.trace_lines.specs.declared.sent_lines.LineFault.TheVariants.{OutOfMemory};
 ghost use Rattle.trace_lines.specs.parts.EventLines.{event_as};
+ghost use Rattle.trace_lines.specs.parts.Listed.{listed_value};
 ghost use Rattle.trace_lines.specs.parts.SentLines.{GoOut, LineGrows, HoldsEvent, takes_event};
 ghost use Rattle.trace_lines.specs.parts.LineLaws.{line_empty, line_joins, line_stops};
 
 use crate::growing::{GrowingLine, LinePart};
+use crate::listed::{ListedValue, long_line_event};
 use crate::resolved::{LineEvent, line_event, push_event_in_full};
-use crate::value::LineValue;
-use dial9_trace_format::decoder::{EventSink, RawEvent};
+use crate::value::FieldLine;
+use dial9_trace_format::decoder::{EventSink, LongEvent, LongEventSink, RawEvent};
 use std::alloc::AllocError;
 use trace_values::leb128::{TraceWrite, send_all};
 
@@ -113,8 +117,15 @@ impl<'w, W: TraceWrite> Lines<'w, W> {
         self.hold_after("", &line_event(event))
     }
 
+    // The same of a long event.
+    fn hold_long(&mut self, event: &LongEvent<'_, ListedValue<'_>>) -> Result<(), LineFault>
+        ensures { HoldsEvent W.told self.old (long_event listed_value event.now) result self.new }
+    {
+        self.hold_after("", &long_line_event(event))
+    }
+
     /// Holds a text and then the line of the event, resolved.
-    pub(crate) fn hold_after<V: LineValue>(
+    pub(crate) fn hold_after<V: FieldLine>(
         &mut self,
         start: &str,
         event: &LineEvent<'_, V>,
@@ -144,5 +155,20 @@ impl<'a, 'w, W: TraceWrite> EventSink<'a, LinesRefusal> for Lines<'w, W> {
             return Err(LinesRefusal::Enough);
         }
         Ok(())
+    }
+}
+
+// Holds the line of each long event, resolved. A list of ids of texts takes no memory.
+impl<'a, 'w, W: TraceWrite> LongEventSink<'a, ListedValue<'a>, LinesRefusal> for Lines<'w, W> {
+    ghost borrows = { refl };
+
+    fn long_event(&mut self, event: &LongEvent<'_, ListedValue<'a>>) -> Result<(), LinesRefusal> {
+        if let Err(fault) = self.hold_long(event) {
+            return Err(LinesRefusal::Fault(fault));
+        }
+        if self.held.len() < ENOUGH {
+            return Ok(());
+        }
+        Err(LinesRefusal::Enough)
     }
 }

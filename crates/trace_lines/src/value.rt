@@ -7,6 +7,7 @@ ghost use Rattle.trace_values.specs.Raw.{texts_front};
 ghost use Rattle.trace_values.specs.parts.types.Flat.{flat_form};
 ghost use Rattle.trace_values.specs.Reading.{values_to_items, values_to_pairs};
 ghost use Rattle.trace_values.specs.Values.{Value, texts, list, map};
+ghost use Rattle.trace_values.specs.Refs.{ref_view};
 ghost use Rattle.trace_values.specs.ValueViews.{view, text_pairs_view};
 ghost use Rattle.trace_values.specs.declared.types.field_value.FieldValue.{size-FieldValue};
 ghost use Rattle.trace_lines.specs.Appending.{AppendsText};
@@ -26,7 +27,7 @@ use crate::text_maps::{push_texts, text_pairs};
 use dial9_trace_format::resolve::DeserError;
 use std::alloc::AllocError;
 use trace_values::tri;
-use trace_values::types::FieldValue;
+use trace_values::types::{FieldValue, FieldValueRef};
 use trace_wire::pools::{StackPool, StringPool};
 
 /// How values are shown.
@@ -79,6 +80,50 @@ pub(crate) trait LineValue: Sized {
     fn flat_known(&self, strings: &StringPool, stacks: &StackPool) -> Result<(), DeserError>
         ensures { IsKnown (unknown_ids (as_pools strings.now stacks.now)
             (flat_form (value self.now))) result };
+}
+
+/// A value of an event's field that stands in a line.
+pub(crate) trait FieldLine: Sized {
+    /// What it is.
+    ghost value: { Self → Value };
+
+    /// Whether the pools know all ids in it, or the first that they do not know.
+    fn field_known(&self, strings: &StringPool, stacks: &StackPool) -> Result<(), DeserError>
+        ensures { IsKnown (unknown_ids (as_pools strings.now stacks.now) (value self.now))
+            result };
+
+    /// Appends it, as it is or in full.
+    fn put_field<L: GrowingLine>(&self, out: &mut L, form: &Shown<'_>) -> Result<(), L::Fault>
+        ensures { L.grows out.old (value_text (shown_in form.now (value self.now))) result
+            out.new };
+}
+
+impl FieldLine for FieldValue {
+    ghost value = { view };
+
+    #[inline(always)]
+    fn field_known(&self, strings: &StringPool, stacks: &StackPool) -> Result<(), DeserError> {
+        value_known(strings, stacks, self)
+    }
+
+    #[inline(always)]
+    fn put_field<L: GrowingLine>(&self, out: &mut L, form: &Shown<'_>) -> Result<(), L::Fault> {
+        push_line_value(out, self, form)
+    }
+}
+
+impl<'a> FieldLine for FieldValueRef<'a> {
+    ghost value = { ref_view };
+
+    #[inline(always)]
+    fn field_known(&self, strings: &StringPool, stacks: &StackPool) -> Result<(), DeserError> {
+        value_known(strings, stacks, self)
+    }
+
+    #[inline(always)]
+    fn put_field<L: GrowingLine>(&self, out: &mut L, form: &Shown<'_>) -> Result<(), L::Fault> {
+        push_line_value(out, self, form)
+    }
 }
 
 impl LineValue for FieldValue {
@@ -187,7 +232,7 @@ pub(crate) fn push_line_value<V: LineValue, L: GrowingLine>(
 }
 
 #[cycle(value)]
-fn push_list<V: LineValue, L: GrowingLine>(
+pub(crate) fn push_list<V: LineValue, L: GrowingLine>(
     out: &mut L,
     items: &[V],
     form: &Shown<'_>,
@@ -283,7 +328,7 @@ fn ids_known<V: LineValue>(
 }
 
 #[cycle(knowing)]
-fn item_ids_known<V: LineValue>(
+pub(crate) fn item_ids_known<V: LineValue>(
     strings: &StringPool,
     stacks: &StackPool,
     items: &[V],

@@ -12,33 +12,33 @@ pub loop-value-init : goal.loop-value-init
 loop-value-init g c =
     let e = c.args.event.now in
     ap (λ (ns : List Field). field_unresolved (as_pools e.strings.now e.stacks.now) (names_of ns)
-    (list_map g.V.LineValue.value e.values.now)) c.fields-names.ensures
+    (list_map g.V.FieldLine.value e.values.now)) c.fields-names.ensures
 
 pub returns-in_default : goal.returns-in_default
 returns-in_default g c =
     let e = c.args.event.now in
-    no_name_left g.V.LineValue.value (as_pools e.strings.now e.stacks.now) c.loop-value.names.now e.values.now
+    no_name_left g.V.FieldLine.value (as_pools e.strings.now e.stacks.now) c.loop-value.names.now e.values.now
     c.loop-value.value-index _ c.in_default.ensures.cases
     (record { inside = c.loop-value-test.true; is = c.value-item.is }) c.loop-value.invariant
 
-pub returns-in_err-value_known : goal.returns-in_err-value_known
-returns-in_err-value_known g c =
+pub returns-in_err-field_known : goal.returns-in_err-field_known
+returns-in_err-field_known g c =
     let p = err_from_is_err_and c.from_residual.result c.from_residual.ensures.1 in
-    rw (p.1, p.2) (field_first g.V.LineValue.value _ c.args.event.now.values.now c.loop-value.value-index _
+    rw (p.1, p.2) (field_first g.V.FieldLine.value _ c.args.event.now.values.now c.loop-value.value-index _
     c.in-Some.ensures.cases.0 c.loop-value-test.true c.value-item.is c.loop-value.invariant
-    c.in_err-value_known.ensures)
+    c.in_err-field_known.ensures)
 
 pub loop-value-preserved : goal.loop-value-preserved
 loop-value-preserved g c =
     let e = c.args.event.now in
-    field_known g.V.LineValue.value (as_pools e.strings.now e.stacks.now) e.values.now c.loop-value.value-index
+    field_known g.V.FieldLine.value (as_pools e.strings.now e.stacks.now) e.values.now c.loop-value.value-index
     c.in-Some.ensures.cases.0 (record { inside = c.loop-value-test.true; is = c.value-item.is })
-    c.in_ok-value_known.ensures.0 c.loop-value.invariant
+    c.in_ok-field_known.ensures.0 c.loop-value.invariant
 
 pub returns : goal.returns
 returns g c =
     let e = c.args.event.now in (
-      all_known g.V.LineValue.value (as_pools e.strings.now e.stacks.now) c.loop-value.names.now e.values.now
+      all_known g.V.FieldLine.value (as_pools e.strings.now e.stacks.now) c.loop-value.names.now e.values.now
           c.loop-value.value-index _ c.loop-value-test.false c.loop-value.invariant,
       tt,
     )

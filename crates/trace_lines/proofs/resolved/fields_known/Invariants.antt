@@ -7,7 +7,7 @@ use Rattle.trace_lines.proofs.resolved.fields_known.Given as goal
 
 abbrev pub invariant-loop-value : goal.invariant-loop-value
 invariant-loop-value g l =
-    let see = g.V.LineValue.value in
+    let see = g.V.FieldLine.value in
     field_unresolved (as_pools l.event.strings.now l.event.stacks.now) (names_of l.names)
     (list_map see (drop l.value-index l.event.values.now))
     ≡ unresolved_of (event_as see l.event)

@@ -10,4 +10,4 @@ returns-in_err-put g c =
 
 pub returns : goal.returns
 unfolding entry_text
-returns g c = g.met.L.GrowingLine.joins _ _ _ _ _ _ c.in_ok-put.ensures c.push_line_value.ensures
+returns g c = g.met.L.GrowingLine.joins _ _ _ _ _ _ c.in_ok-put.ensures c.put_field.ensures

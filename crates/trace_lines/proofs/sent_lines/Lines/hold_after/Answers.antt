@@ -10,7 +10,7 @@ use Rattle.trace_lines.proofs.sent_lines.Lines.hold_after.Goals as goal
 pub returns-in_err-put : goal.returns-in_err-put
 returns-in_err-put g c =
     let told = g.W.TraceWrite.told in
-    let text = line (resolved_line (event_as g.V.LineValue.value c.args.event.now)) in
+    let text = line (resolved_line (event_as g.V.FieldLine.value c.args.event.now)) in
     let p = err_from_is_err_and c.from_residual.result c.from_residual.ensures.1 in
     rw (p.1, p.2) (text_fails told c.args.self.now _ c.clear.new.self (c.args.start.now ++ text) _ c.clear.ensures.bytes
     (line_stops told _ _ c.args.start.now text _ c.in_err-put.ensures))
@@ -18,7 +18,7 @@ returns-in_err-put g c =
 pub returns-in_err-push_event_in_full : goal.returns-in_err-push_event_in_full
 returns-in_err-push_event_in_full g c =
     let told = g.W.TraceWrite.told in
-    let text = line (resolved_line (event_as g.V.LineValue.value c.args.event.now)) in
+    let text = line (resolved_line (event_as g.V.FieldLine.value c.args.event.now)) in
     let given = c.from_residual-in_err-push_event_in_full in
     let p = err_from_is_err_and given.result given.ensures.1 in
     rw (p.1, p.2) (text_fails told c.args.self.now _ c.clear.new.self (c.args.start.now ++ text) _ c.clear.ensures.bytes
@@ -29,7 +29,7 @@ returns g c =
     let told = g.W.TraceWrite.told in
     let s = c.args.self.now in
     let m = c.push_event_in_full.new.out in
-    let text = line (resolved_line (event_as g.V.LineValue.value c.args.event.now)) in
+    let text = line (resolved_line (event_as g.V.FieldLine.value c.args.event.now)) in
     text_held told s m c.push_str.new.self (c.args.start.now ++ text)
     (text_made told s m c.clear.new.self (c.args.start.now ++ text) c.clear.ensures.bytes
     (line_joins told _ _ _ c.args.start.now text _ c.in_ok-put.ensures c.in_ok-push_event_in_full.ensures))
@@ -40,7 +40,7 @@ returns-in_err-push_str g c =
     let told = g.W.TraceWrite.told in
     let s = c.args.self.now in
     let m = c.push_event_in_full.new.out in
-    let text = line (resolved_line (event_as g.V.LineValue.value c.args.event.now)) in
+    let text = line (resolved_line (event_as g.V.FieldLine.value c.args.event.now)) in
     let given = c.from_residual-in_err-push_str in
     let p = err_from_is_err_and given.result given.ensures.1 in
     rw (p.1, p.2) (text_not_held told s m c.push_str.new.self (c.args.start.now ++ text)
