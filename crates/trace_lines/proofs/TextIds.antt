@@ -14,7 +14,8 @@ use Rattle.trace_values.specs.declared.types.stop.Stop.{Stop}
 use Rattle.trace_values.specs.declared.types.stop.Stop.TheVariants as stops
 use Rattle.trace_values.specs.FieldTypes.{from_tag}
 use Rattle.trace_values.specs.Limits.{most_items}
-use Rattle.trace_values.specs.Reading.{◌>>=◌, as_value, byte_at, count_at, field_at, item_at, many_at, plain_at, times_at}
+use Rattle.trace_values.specs.Reading.{◌>>=◌, as_value, byte_at, count_at, field_at, item_at, many_at, plain_at}
+use Rattle.trace_values.specs.Reading.{times_at}
 use Rattle.trace_values.specs.Reading.{value_at, values_to_items, word_at}
 use Rattle.trace_values.specs.Values.{Value, borrowed, list}
 use Rattle.trace_values.specs.Wanting.{StopsIf, field_wants, plain_wants, wants_at}

@@ -1,7 +1,6 @@
 //! Lines that are held before they are sent, and sent as they grow.
 
 ghost use Rattle.std.specs.Prelude.{◌≡◌, [], ◌++◌, string_bytes};
-ghost use Rattle.std.proofs.Common.{refl};
 ghost use Rattle.dial9_trace_format.specs.LongEvents.{long_event};
 ghost use Rattle.dial9_trace_format.specs.ShownEvents.{shown_event};
 ghost use Rattle.trace_lines.specs.Lines.{line};
@@ -160,8 +159,6 @@ impl<'a, 'w, W: TraceWrite> EventSink<'a, LinesRefusal> for Lines<'w, W> {
 
 // Holds the line of each long event, resolved. A list of ids of texts takes no memory.
 impl<'a, 'w, W: TraceWrite> LongEventSink<'a, ListedValue<'a>, LinesRefusal> for Lines<'w, W> {
-    ghost borrows = { refl };
-
     fn long_event(&mut self, event: &LongEvent<'_, ListedValue<'a>>) -> Result<(), LinesRefusal> {
         if let Err(fault) = self.hold_long(event) {
             return Err(LinesRefusal::Fault(fault));
