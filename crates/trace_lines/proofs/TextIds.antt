@@ -66,11 +66,11 @@ ids_read levels (suc n) front rest len all =
 
 -- one item more was tested
 pub item_tested :
-    (items : List (List ℕ)) (i : ℕ) (item : List ℕ) {all one : Bool} → i < length items → item ≡ get_or items i item
-    → all ≡ list_all is_text_id (take i items) → one ≡ is_text_id item
+    (items : List (List ℕ)) (i : ℕ) (d : List ℕ) {all one : Bool} → i < length items
+    → all ≡ list_all is_text_id (take i items) → one ≡ is_text_id (get_or items i d)
     → (all && one) ≡ list_all is_text_id (take (i + 1) items)
-item_tested items i item lt is before this =
-    ap₂ (λ (a b : Bool). a && b) before (this ∙ ap is_text_id is) ∙ sym (list_all_more is_text_id items i item lt)
+item_tested items i d lt before this =
+    ap₂ (λ (a b : Bool). a && b) before this ∙ sym (list_all_more is_text_id items i d lt)
 
 -- all items were tested
 pub items_tested :
@@ -105,9 +105,9 @@ ids_listed bytes count {rest} {front} {after} items counted front_is after_is le
 -- ---- fields of fixed width
 
 word_reads :
-    {w : Width} (f : ℕ → Value) (s : List ℕ) → byte_len w ≤ length s → as_value f (word_at w s) ≡ None → ⊥
+    (w : Width) (f : ℕ → Value) (s : List ℕ) → byte_len w ≤ length s → as_value f (word_at w s) ≡ None → ⊥
 unfolding word_at
-word_reads {w} f s long none =
+word_reads w f s long none =
     let short : ltb (length s) (byte_len w) ≡ false = le-ltb _ _ long in
     none_some (f (from_le_bytes w (take (byte_len w) s)), drop (byte_len w) s) (sym none ∙ rw short refl)
 
@@ -122,12 +122,12 @@ pub fixed_reads :
 unfolding field_at value_at plain_at field_wants wants_at plain_wants
 fixed_reads types.Bool s stops.Unread long none = byte_reads _ s long none
 fixed_reads types.U8 s stops.Unread long none = byte_reads _ s long none
-fixed_reads types.U16 s stops.Unread long none = word_reads _ s long none
-fixed_reads types.U32 s stops.Unread long none = word_reads _ s long none
-fixed_reads types.PooledString s stops.Unread long none = word_reads _ s long none
-fixed_reads types.PooledStackFrames s stops.Unread long none = word_reads _ s long none
-fixed_reads types.I64 s stops.Unread long none = word_reads _ s long none
-fixed_reads types.F64 s stops.Unread long none = word_reads _ s long none
+fixed_reads types.U16 s stops.Unread long none = word_reads _ _ s long none
+fixed_reads types.U32 s stops.Unread long none = word_reads _ _ s long none
+fixed_reads types.PooledString s stops.Unread long none = word_reads _ _ s long none
+fixed_reads types.PooledStackFrames s stops.Unread long none = word_reads _ _ s long none
+fixed_reads types.I64 s stops.Unread long none = word_reads _ _ s long none
+fixed_reads types.F64 s stops.Unread long none = word_reads _ _ s long none
 fixed_reads types.Bool s stops.Memory long wants = absurd (true≢false (sym wants))
 fixed_reads types.U8 s stops.Memory long wants = absurd (true≢false (sym wants))
 fixed_reads types.U16 s stops.Memory long wants = absurd (true≢false (sym wants))
