@@ -5,7 +5,7 @@ use Rattle.std.proofs.Common.{arith, true≢false, length-append, length-drop, t
 use Rattle.std.proofs.Math.Dec.{ltb}
 use Rattle.std.proofs.lemmas.Bool.{le-ltb, eqb-true}
 use Rattle.std.proofs.lemmas.List.{nil_from_length, take-append-le, drop-append-le}
-use Rattle.std.specs.Int.{Width, byte_len, from_le_bytes}
+use Rattle.std.specs.Int.{Width, byte_len, from_le_bytes, w16, w32, w64}
 use Rattle.std.specs.List.{list_all}
 use Rattle.std.specs.Simd.{first_chunks}
 use Rattle.trace_values.specs.declared.types.field_type.FieldType.{FieldType}
@@ -122,12 +122,12 @@ pub fixed_reads :
 unfolding field_at value_at plain_at field_wants wants_at plain_wants
 fixed_reads types.Bool s stops.Unread long none = byte_reads _ s long none
 fixed_reads types.U8 s stops.Unread long none = byte_reads _ s long none
-fixed_reads types.U16 s stops.Unread long none = word_reads _ _ s long none
-fixed_reads types.U32 s stops.Unread long none = word_reads _ _ s long none
-fixed_reads types.PooledString s stops.Unread long none = word_reads _ _ s long none
-fixed_reads types.PooledStackFrames s stops.Unread long none = word_reads _ _ s long none
-fixed_reads types.I64 s stops.Unread long none = word_reads _ _ s long none
-fixed_reads types.F64 s stops.Unread long none = word_reads _ _ s long none
+fixed_reads types.U16 s stops.Unread long none = word_reads w16 _ s long none
+fixed_reads types.U32 s stops.Unread long none = word_reads w32 _ s long none
+fixed_reads types.PooledString s stops.Unread long none = word_reads w32 _ s long none
+fixed_reads types.PooledStackFrames s stops.Unread long none = word_reads w32 _ s long none
+fixed_reads types.I64 s stops.Unread long none = word_reads w64 _ s long none
+fixed_reads types.F64 s stops.Unread long none = word_reads w64 _ s long none
 fixed_reads types.Bool s stops.Memory long wants = absurd (true≢false (sym wants))
 fixed_reads types.U8 s stops.Memory long wants = absurd (true≢false (sym wants))
 fixed_reads types.U16 s stops.Memory long wants = absurd (true≢false (sym wants))
