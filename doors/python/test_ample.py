@@ -149,7 +149,11 @@ class Ample(unittest.TestCase):
             wanted = ["trace version 1", 'schema "Poll" "worker":Varint "task":Varint "spent":U16']
             wanted += [f"event 256 {1000 * n + 2**25 * (n // 7)} Varint:{n % 8} Varint:{n ** 3} Varint:{n % 65536}"
                        for n in range(count)]
-            self.assertTrue(dump(record_batch(numbers(count)[0])) == "\n".join([*wanted, "end whole", ""]))
+            trace = record_batch(numbers(count)[0])
+            self.assertTrue(dump(trace) == "\n".join([*wanted, "end whole", ""]))
+            wanted = [f'event "Poll" timestamp_ns={1000 * n + 2**25 * (n // 7)} "worker"=Varint:{n % 8} '
+                      f'"task"=Varint:{n ** 3} "spent"=Varint:{n % 65536}' for n in range(count)]
+            self.assertTrue(dump(trace, resolve=True) == "\n".join(["trace version 1", *wanted, "end whole", ""]))
 
     def test_texts_of_each_size(self):
         for size in SIZES:
