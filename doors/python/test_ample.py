@@ -83,6 +83,10 @@ class Wanted:
     def batch(self):
         return b"".join(self.records)
 
+    def state(self):
+        """What is known after all of it: the frames but events and resets, and a reset to the base time."""
+        return b"".join(it for it in self.frames if it[:1] not in b"\2\5") + b"\5" + number(self.base, 8)
+
 
 def numbers(count, notes=()):
     """So many events of three numbers, every seventh far from the one before: a batch, and what is wanted of it."""
@@ -134,7 +138,7 @@ class Ample(unittest.TestCase):
         self.assertEqual(check(trace), events)
         for most in (ALL, events):
             found = read_batch(trace, most=most)
-            self.assertTrue(found.batch == wanted.batch())
+            self.assertTrue(found.batch == wanted.batch() and found.state == wanted.state())
             self.assertEqual((found.events, found.length, found.stop, found.version), (events, len(trace), None, 1))
         return trace
 

@@ -143,6 +143,7 @@ class Sizes(unittest.TestCase):
         for count in EVENTS:
             wanted = Wanted()
             wanted.frames, wanted.records = whole.frames[:2 + count], whole.records[:1 + count]
+            wanted.base = 5 * max(count - 1, 0)
             trace = self.is_done(wanted.batch(), wanted, count)
             self.joins(trace, wanted.batch(), count)
             found = read_batch(trace, most=count // 2)
