@@ -83,6 +83,10 @@ class Wanted:
     def batch(self):
         return b"".join(self.records)
 
+    def state(self):
+        """What is known after all of it: the frames but events and resets, and a reset to the base time."""
+        return b"".join(it for it in self.frames if it[:1] not in b"\2\5") + b"\5" + number(self.base, 8)
+
 
 def numbers(count, notes=()):
     """So many events of three numbers, every seventh far from the one before: a batch, and what is wanted of it."""
@@ -134,7 +138,7 @@ class Ample(unittest.TestCase):
         self.assertEqual(check(trace), events)
         for most in (ALL, events):
             found = read_batch(trace, most=most)
-            self.assertTrue(found.batch == wanted.batch())
+            self.assertTrue(found.batch == wanted.batch() and found.state == wanted.state())
             self.assertEqual((found.events, found.length, found.stop, found.version), (events, len(trace), None, 1))
         return trace
 
@@ -149,7 +153,11 @@ class Ample(unittest.TestCase):
             wanted = ["trace version 1", 'schema "Poll" "worker":Varint "task":Varint "spent":U16']
             wanted += [f"event 256 {1000 * n + 2**25 * (n // 7)} Varint:{n % 8} Varint:{n ** 3} Varint:{n % 65536}"
                        for n in range(count)]
-            self.assertTrue(dump(record_batch(numbers(count)[0])) == "\n".join([*wanted, "end whole", ""]))
+            trace = record_batch(numbers(count)[0])
+            self.assertTrue(dump(trace) == "\n".join([*wanted, "end whole", ""]))
+            wanted = [f'event "Poll" timestamp_ns={1000 * n + 2**25 * (n // 7)} "worker"=Varint:{n % 8} '
+                      f'"task"=Varint:{n ** 3} "spent"=Varint:{n % 65536}' for n in range(count)]
+            self.assertTrue(dump(trace, resolve=True) == "\n".join(["trace version 1", *wanted, "end whole", ""]))
 
     def test_texts_of_each_size(self):
         for size in SIZES:

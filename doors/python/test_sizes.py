@@ -85,6 +85,21 @@ class Sizes(unittest.TestCase):
                     self.assertTrue(dump(trace) == "trace version 1\nschema \"One\" \"it\":String\n" + "".join(
                         f"event 256 {time} String:{line}\n" for time in (7, 9)) + "end whole\n")
 
+    def test_past_sixteen_megabytes(self):
+        """A trace, its lines and, of a pooled text, the state that is handed back."""
+        text = "x" * (2**24 + 1)
+        for kind in (STRING, POOLED_STRING):
+            self.twice(kind, text, counted(text.encode()), f'String:"{text}"')
+
+    def test_schemas_told_so_often(self):
+        """A schema that is told by each count of records right after one another, the last of which counts."""
+        fields, event = [("it", VARINT)], b"\2\0\0" + number(7, 8) + number(1, 2) + b"\x09\1"
+        for count in COUNTS[1:]:
+            told = [Schema("One", fields, [(0, "k", str(n))] * (n % 3)) for n in range(count)]
+            wanted = Wanted()
+            wanted.event(wanted.schema("One", fields, told[-1].annotations), 7, [(VARINT, b"\1")])
+            self.assertTrue(record_batch(b"".join(it.record(0) for it in told) + event) == wanted.trace())
+
     def test_stacks(self):
         for size in range(601):
             stack = tuple(range(1, size + 1))
@@ -128,6 +143,7 @@ class Sizes(unittest.TestCase):
         for count in EVENTS:
             wanted = Wanted()
             wanted.frames, wanted.records = whole.frames[:2 + count], whole.records[:1 + count]
+            wanted.base = 5 * max(count - 1, 0)
             trace = self.is_done(wanted.batch(), wanted, count)
             self.joins(trace, wanted.batch(), count)
             found = read_batch(trace, most=count // 2)

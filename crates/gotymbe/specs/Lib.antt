@@ -1,4 +1,5 @@
 pub mod Calls
 pub mod Clocks
 pub mod Failures
+pub mod Picks
 pub mod Reading

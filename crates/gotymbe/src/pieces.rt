@@ -1,6 +1,8 @@
 //! Frames of an input that is read in pieces.
 
 ghost use Rattle.std.specs.Prelude.{◌≡◌, take};
+ghost use Rattle.dial9_trace_format.specs.DecodedFrames.{item_of};
+ghost use Rattle.gotymbe.specs.Picks.{LearnsOf, PicksOf};
 ghost use Rattle.gotymbe.specs.Reading.{IsFedEnding, IsEndingInside, IsPlaced, KeepsCause, IsEndingAgain};
 
 use crate::clocks::zero_said;
@@ -82,7 +84,10 @@ impl<'n> Picked<'n> {
         &mut self,
         frame: &'f DecodedFrame,
         decoder: &'f FeedDecoder,
-    ) -> Result<Option<OwnedEvent<'f>>, Ending> {
+    ) -> Result<Option<OwnedEvent<'f>>, Ending>
+        ensures { PicksOf decoder.now.state (item_of frame.now)
+            self.old.picker self.new.picker result }
+    {
         let (registry, strings, stacks) = (
             decoder.registry(),
             decoder.string_pool(),
@@ -104,7 +109,10 @@ impl<'n> Picked<'n> {
     }
 
     // Learns the clock that a frame says, where a date waits for one.
-    fn learn(&mut self, frame: &DecodedFrame, decoder: &FeedDecoder) {
+    fn learn(&mut self, frame: &DecodedFrame, decoder: &FeedDecoder)
+        ensures { LearnsOf decoder.now.state.grammar.wire_types (item_of frame.now)
+            self.old.picker self.new.picker }
+    {
         if self.picker.waits() {
             self.picker.learn(zero_said(frame, decoder));
         }

@@ -200,10 +200,7 @@ impl<'w, W: TraceWrite> GrowingJson for SentJson<'w, W> {
 
     #[inline(always)]
     fn put_mark(&mut self, mark: Mark<'_>) -> Result<(), LineError> {
-        match put_mark_to(&mut self.writer, mark) {
-            Ok(()) => Ok(()),
-            Err(_) => Err(LineError::OutOfMemory),
-        }
+        Ok(put_mark_to(&mut self.writer, mark)?)
     }
 
     fn put_head(
@@ -212,10 +209,7 @@ impl<'w, W: TraceWrite> GrowingJson for SentJson<'w, W> {
         name: &str,
         timestamp_ns: u64,
     ) -> Result<(), LineError> {
-        match put_head_to(&mut self.writer, file, name, timestamp_ns) {
-            Ok(()) => Ok(()),
-            Err(_) => Err(LineError::OutOfMemory),
-        }
+        Ok(put_head_to(&mut self.writer, file, name, timestamp_ns)?)
     }
 
     #[inline(always)]
@@ -226,10 +220,7 @@ impl<'w, W: TraceWrite> GrowingJson for SentJson<'w, W> {
         stacks: &StackPool,
         value: &V,
     ) -> Result<(), LineError> {
-        match value.put_flat(alloc, &mut self.writer, strings, stacks) {
-            Ok(()) => {}
-            Err(_) => return Err(LineError::OutOfMemory),
-        }
+        value.put_flat(alloc, &mut self.writer, strings, stacks)?;
         self.weight = self.weight.saturating_add(value.weight(strings, stacks));
         if self.weight < ENOUGH {
             return Ok(());
@@ -253,10 +244,7 @@ impl<'w, W: TraceWrite> SentJson<'w, W> {
         self.writer = Writer::new(line);
         self.goes_on = true;
         self.weight = 0;
-        match self.writer.end_array() {
-            Ok(()) => Ok(()),
-            Err(_) => Err(LineError::OutOfMemory),
-        }
+        Ok(self.writer.end_array()?)
     }
 }
 

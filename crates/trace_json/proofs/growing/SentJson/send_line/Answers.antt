@@ -17,8 +17,8 @@ returns-in_err-send_both g c =
       left_is = c.left_of.ensures;
     }) refl c.in_err-send_both.ensures)
 
-pub returns-in-Ok : goal.returns-in-Ok
-returns-in-Ok g c =
+pub returns : goal.returns
+returns g c =
     line_gone g.W.TraceWrite.told c.args.self.now _
     (record {
       held_is = c.deref.ensures.value;
@@ -27,18 +27,19 @@ returns-in-Ok g c =
       left_is = c.left_of.ensures;
     }) refl c.in_ok-send_both.ensures c.requires
     (record {
-      tokens = c.in-Ok.ensures.ok ∙ ap (λ (ts : List Token). ts ++ end_array ∷ []) c.new-3.ensures.tokens;
+      tokens = c.in_ok-end_array.ensures.ok ∙ ap (λ (ts : List Token). ts ++ end_array ∷ []) c.new-3.ensures.tokens;
       before = c.end_array.ensures.room.0 ∙ c.new-3.ensures.before ∙ c.clear-2.ensures.items;
       goes_on = refl;
       held = c.clear.ensures.items;
     })
 
-pub returns-in-Err : goal.returns-in-Err
-returns-in-Err g c =
-    line_refused_on g.W.TraceWrite.told c.args.self.now _
+pub returns-in_err-end_array : goal.returns-in_err-end_array
+returns-in_err-end_array g c =
+    let p = err_from_is_err_and c.from_residual-in_err-end_array.result c.from_residual-in_err-end_array.ensures.1 in
+    rw (p.1, p.2) (line_refused_on g.W.TraceWrite.told c.args.self.now _
     (record {
       held_is = c.deref.ensures.value;
       text_is = c.deref-2.ensures.value ∙ c.into_inner-line.ensures.items
           ∙ ap (λ (w : Written). w.before ++ print w.tokens) c.replace-writer.ensures.value;
       left_is = c.left_of.ensures;
-    }) refl c.in_ok-send_both.ensures
+    }) refl c.in_ok-send_both.ensures)
