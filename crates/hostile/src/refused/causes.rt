@@ -40,7 +40,11 @@ const LONG: usize = 400;
 
 /// Asks for the cause at every cut of a trace, and at the last one alone where it is long.
 pub fn sweep_causes(alloc: Global, bytes: &[u8], counts: &mut Counts) -> Result<(), AllocError> {
-    let first = if bytes.len() < LONG { HEADER } else { bytes.len() - 1 };
+    let first = if bytes.len() < LONG {
+        HEADER
+    } else {
+        bytes.len() - 1
+    };
     for place in first..bytes.len() {
         sweep_cause(alloc, &bytes[..place], counts)?;
     }
