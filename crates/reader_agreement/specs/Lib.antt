@@ -5,4 +5,5 @@ pub mod Headless
 pub mod ReadAlike
 pub mod Readings
 pub mod Signs
+pub mod Steps
 pub mod parts

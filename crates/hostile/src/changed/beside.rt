@@ -6,9 +6,8 @@ use dial9_trace_format::DeserError;
 use dial9_trace_format::decoder::{
     DecodeError, DecodedFrameRef, Decoder, EventSink, RawEvent, TryForEachError,
 };
-use reader_agreement::events::{is_described, is_shown};
+use reader_agreement::beside::is_read_by;
 use reader_agreement::readings::Showing;
-use reader_agreement::resolved::is_resolved;
 use std::alloc::{AllocError, Global};
 
 /// Compares each event that it is shown with the next one that a reader beside it gives.
@@ -50,27 +49,18 @@ impl<'a> EventSink<'a, Refusal> for Beside<'a> {
     }
 }
 
-/// Whether the event is the next one that the reader gives.
+/// Whether the event is the next one that the reader gives, and resolves as look-ups by hand show it.
 fn is_next<'a>(
     alloc: Global,
     reader: &mut Decoder<'a>,
     event: &RawEvent<'a, '_>,
 ) -> Result<bool, AllocError> {
-    if !is_shown(next_event(reader).as_ref(), event) {
-        return Ok(false);
-    }
-    let (texts, stacks) = (reader.string_pool(), reader.stack_pool());
-    let described = is_described(reader.registry(), texts, stacks, event);
-    Ok(described & resolves(alloc, event)?)
-}
-
-/// Whether the event resolves as look-ups by hand show it.
-fn resolves(alloc: Global, event: &RawEvent<'_, '_>) -> Result<bool, AllocError> {
     let answer = event.resolve(alloc);
     if matches!(answer, Err(DeserError::OutOfMemory)) {
         return Err(AllocError);
     }
-    Ok(is_resolved(event, &answer))
+    let frame = next_event(reader);
+    Ok(is_read_by(reader, frame.as_ref(), event, &answer))
 }
 
 /// The next frame that is an event.

@@ -1,5 +1,8 @@
 //! What the program does and prints of changed traces.
 
+ghost use Rattle.std.specs.Prelude.{◌≡◌, ◌==◌, length};
+ghost use Rattle.hostile.specs.Answers.{end_at};
+
 use crate::calls::{decoder_of, next_owned, place_of, step};
 use crate::changed::beside::showing_of;
 use crate::changed::fed::{fed_of, unread_of};
@@ -183,7 +186,9 @@ fn shown_of(alloc: Global, reference: &Reference<'_>, place: usize) -> Result<Sh
     })
 }
 
-fn end_of(bytes: &[u8], ended: &Ended) -> End {
+fn end_of(bytes: &[u8], ended: &Ended) -> End
+    ensures { result ≡ end_at (ended.now.place == length bytes.now) ended.now.error }
+{
     if ended.error.is_some() {
         return End::Conflict;
     }

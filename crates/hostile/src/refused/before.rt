@@ -6,6 +6,7 @@ use crate::refused::runs::Reference;
 use dial9_trace_format::decoder::{DecodeError, DecodedFrame, Decoder, StackPool, StringPool};
 use dial9_trace_format::encoder::Encoder;
 use dial9_trace_format::schema::SchemaRegistry;
+use reader_agreement::any_event::is_any_event;
 use reader_agreement::tables::{same_schemas, same_stacks, same_texts};
 use std::alloc::{AllocError, Global};
 
@@ -90,10 +91,10 @@ fn stood_in(answer: Result<Vec<DecodedFrame>, DecodeError>) -> Option<Stood> {
 }
 
 /// How many of the frames are events.
-pub fn events_of(frames: &[DecodedFrame]) -> usize {
+fn events_of(frames: &[DecodedFrame]) -> usize {
     let mut count: usize = 0;
     for frame in frames {
-        if matches!(frame, DecodedFrame::Event { .. }) {
+        if is_any_event(frame) {
             count = count.saturating_add(1);
         }
     }
