@@ -103,7 +103,15 @@ pub fn are_same_refs<'v, 'b>(
 ) -> bool
     ensures { result ≡ pointwise same_item (map ref_item_of refs.now) (map ref_item_of others.now) }
 {
-    refs == others
+    if refs.len() != others.len() {
+        return false;
+    }
+    for i in 0..refs.len() {
+        if refs[i] != others[i] {
+            return false;
+        }
+    }
+    true
 }
 
 /// What a decoder did that was fed two pieces without a header in front.

@@ -64,8 +64,8 @@ pub fn take_borrowed<'v, 'b>(
 ) -> bool
     ensures taken { run.new ≡ run_after run.old (tested
         (λ f. is_wanted (option_map (λ w. ref_item_of w.now) wanted.entry) (ref_item_of f))
-        answer) }
-    ensures more { result ≡ gives_one answer }
+        answer.entry) }
+    ensures more { result ≡ gives_one answer.entry }
 {
     match answer {
         Ok(Some(frame)) => {
@@ -88,8 +88,8 @@ pub fn take_item<'v, 'b>(
 ) -> bool
     ensures taken { run.new ≡ run_after run.old (tested
         (λ f. is_wanted (option_map (λ w. ref_item_of w.now) wanted.entry) (ref_item_of f))
-        (as_answer item)) }
-    ensures more { result ≡ is_some item }
+        (as_answer item.entry)) }
+    ensures more { result ≡ is_some item.entry }
 {
     match item {
         Some(Ok(frame)) => take_borrowed(run, wanted, Ok(Some(frame))),
