@@ -84,28 +84,38 @@ impl<'c, 'r, R: AllocGlobal + Files<File = File>> Tables<'c, 'r, R> {
         Ok(place)
     }
 
-    // Begins the table of a schema.
+    // Begins the table of a schema. Its file is begun last, and removed where the table can't be kept.
     fn put_last(&mut self, schema: &SchemaEntry) -> Result<usize, Ending> {
         let (alloc, place) = (self.rt.alloc(), self.tables.len());
         let name = table_name(alloc, place as u64 + 1, schema.name())?;
         let path = path_of(alloc, self.folder, &name, "csv")?;
-        let begun = self.begin(path)?;
+        let text = self.head_of(schema)?;
+        let table = Table {
+            schema: SchemaEntry::new(alloc, schema.name(), schema.fields())?,
+            name,
+            place: self.begin(path)?,
+            rows: 0,
+            text,
+            held: 0,
+        };
+        match self.tables.push(table) {
+            Ok(()) => Ok(place),
+            Err(refused) => {
+                refused.value.place.give_up(self.rt);
+                Err(Ending::OutOfMemory)
+            }
+        }
+    }
+
+    // The first row of a schema's table.
+    fn head_of(&mut self, schema: &SchemaEntry) -> Result<Writer<Vec<u8>>, Ending> {
+        let alloc = self.rt.alloc();
         let mut text = Writer::from_writer(Vec::new(alloc));
         put_columns(alloc, &mut self.row, schema.fields())?;
         if text.write_byte_record(&self.row).is_err() {
             return Err(Ending::OutOfMemory);
         }
-        let schema = SchemaEntry::new(alloc, schema.name(), schema.fields())?;
-        let table = Table {
-            schema,
-            name,
-            place: begun,
-            rows: 0,
-            text,
-            held: 0,
-        };
-        self.tables.push(table)?;
-        Ok(place)
+        Ok(text)
     }
 
     // Begins a file.
