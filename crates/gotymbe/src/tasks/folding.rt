@@ -88,7 +88,7 @@ fn add_all<'c>(
 ) -> Result<u8, AllocError> {
     let mut status = WHOLE;
     for name in call.asked.files.as_slice() {
-        folding.picked = Picked::of(call, zero_of(rt, call, name));
+        folding.picked = Picked::of(call, zero_of(rt, call, name)?);
         let ending = read_named(rt, call, name, folding);
         status = status.max(tell(rt, name, ending)?);
     }

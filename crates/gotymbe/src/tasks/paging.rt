@@ -113,7 +113,9 @@ fn gather<'n>(
     name: &str,
     gathered: &mut Gathered<'n>,
 ) -> Ending {
-    let zero = zero_of(rt, call, name);
+    let Ok(zero) = zero_of(rt, call, name) else {
+        return Ending::OutOfMemory;
+    };
     gathered.zero = zero;
     gathered.picked = Picked::of(call, zero);
     read_named(rt, call, name, gathered)

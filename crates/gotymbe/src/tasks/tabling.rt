@@ -60,7 +60,7 @@ fn fill_all<'c, R: AllocGlobal + Files<File = File> + Input + Eprint + Clock>(
 ) -> Result<Result<u8, Ending>, AllocError> {
     let mut status = WHOLE;
     for name in call.asked.files.as_slice() {
-        tables.picked = Picked::of(call, zero_of(rt, call, name));
+        tables.picked = Picked::of(call, zero_of(rt, call, name)?);
         let ending = read_named(rt, call, name, tables);
         if let Ending::Unwritten(_) = ending {
             return Ok(Err(ending));
