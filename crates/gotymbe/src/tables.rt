@@ -89,7 +89,11 @@ impl<'c, 'r, R: AllocGlobal + Files<File = File>> Tables<'c, 'r, R> {
         let (alloc, place) = (self.rt.alloc(), self.tables.len());
         let name = table_name(alloc, place as u64 + 1, schema.name())?;
         let path = path_of(alloc, self.folder, &name, "csv")?;
-        let text = self.head_of(schema)?;
+        let mut text = Writer::from_writer(Vec::new(alloc));
+        put_columns(alloc, &mut self.row, schema.fields())?;
+        if text.write_byte_record(&self.row).is_err() {
+            return Err(Ending::OutOfMemory);
+        }
         let table = Table {
             schema: SchemaEntry::new(alloc, schema.name(), schema.fields())?,
             name,
@@ -105,17 +109,6 @@ impl<'c, 'r, R: AllocGlobal + Files<File = File>> Tables<'c, 'r, R> {
                 Err(Ending::OutOfMemory)
             }
         }
-    }
-
-    // The first row of a schema's table.
-    fn head_of(&mut self, schema: &SchemaEntry) -> Result<Writer<Vec<u8>>, Ending> {
-        let alloc = self.rt.alloc();
-        let mut text = Writer::from_writer(Vec::new(alloc));
-        put_columns(alloc, &mut self.row, schema.fields())?;
-        if text.write_byte_record(&self.row).is_err() {
-            return Err(Ending::OutOfMemory);
-        }
-        Ok(text)
     }
 
     // Begins a file.
