@@ -1,6 +1,6 @@
 //! Lines that tell what events add up to (docs/TOOLS.md, "Statistics").
 
-ghost use Rattle.std.specs.Prelude.{◌≡◌, ◌++◌, ◌∷◌, ◌+◌, ◌<◌, ◌^◌, codes, length};
+ghost use Rattle.std.specs.Prelude.{◌≡◌, ◌++◌, ◌+◌, ◌<◌, ◌^◌, codes, length};
 ghost use Rattle.std.specs.List.{flat_map, enumerate_from, zip};
 ghost use Rattle.trace_lines.specs.Appending.{AppendsText};
 ghost use Rattle.gotymbe_plan.specs.Statistics.{stats_lines, schema_lines, schema_line, counts_text, pair_lines};
@@ -45,7 +45,6 @@ fn push_schema(out: &mut String, schema: &SchemaStats) -> Result<(), AllocError>
 }
 
 // Appends the lines of fields.
-#[cycle(pairs)]
 fn push_fields(
     out: &mut String,
     fields: &[FieldDef],
@@ -53,30 +52,11 @@ fn push_fields(
 ) -> Result<(), AllocError>
     ensures { AppendsText (flat_map pair_lines (zip fields.now stats.now)) out.old out.new result }
 {
-    match stats {
-        [] => Ok(()),
-        [first, others @ ..] => push_fields_from(out, fields, first, others),
+    let count = fields.len().min(stats.len());
+    'pairs: for index in 0..count {
+        push_field(out, fields[index].name(), &stats[index])?;
     }
-}
-
-// Appends the lines of fields, the first and the others.
-#[cycle(pairs)]
-fn push_fields_from(
-    out: &mut String,
-    fields: &[FieldDef],
-    first: &FieldStats,
-    others: &[FieldStats],
-) -> Result<(), AllocError>
-    ensures { AppendsText (flat_map pair_lines (zip fields.now (first.now ∷ others.now))) out.old
-        out.new result }
-{
-    match fields {
-        [] => Ok(()),
-        [field, later @ ..] => {
-            push_field(out, field.name(), first)?;
-            push_fields(out, later, others)
-        }
-    }
+    Ok(())
 }
 
 // Appends the name of a schema, and how many events there are, their bytes and times.
