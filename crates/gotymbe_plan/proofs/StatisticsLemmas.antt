@@ -1,12 +1,14 @@
 -- The lines of fields, one field after another.
-use Rattle.std.proofs.Common.{◌≡◌, ◌<◌, ◌≤◌, ℕ, ◌+◌, List, [], ◌∷◌, ◌++◌, length, get_or, take, min, ap, sym, ◌∙◌, arith}
-use Rattle.std.proofs.Common.{append-nil}
-use Rattle.std.proofs.lemmas.List.{flat_map_more, take_more, take_all}
+use Rattle.std.proofs.Common.{◌≡◌, ◌<◌, ◌≤◌, ℕ, ◌+◌, List, [], ◌∷◌, ◌++◌, length, get_or, take, min, ap, sym, ◌∙◌}
+use Rattle.std.proofs.Common.{arith, Result, Ok, Err, OnOk}
+use Rattle.std.proofs.lemmas.List.{append_assoc, flat_map_more, take_more, take_all}
 use Rattle.std.proofs.lemmas.Slice.Zip.{length-zip, get_or-zip}
 use Rattle.std.specs.List.{flat_map, zip}
+use Rattle.std.specs.Prelude.{codes}
 use Rattle.trace_wire.specs.Schemas.{Field}
 use Rattle.trace_stats.specs.declared.field.FieldStats.{FieldStats}
-use Rattle.gotymbe_plan.specs.Statistics.{field_lines, pair_lines}
+use Rattle.trace_stats.specs.declared.float.FloatSummary.{FloatSummary}
+use Rattle.gotymbe_plan.specs.Statistics.{field_lines, pair_lines, named_number, bounds_text, floats_text}
 
 -- a text, and then the lines of so many fields
 abbrev pub with_lines : List ℕ → ℕ → List Field → List FieldStats → List ℕ
@@ -36,9 +38,25 @@ one_more old now next fields stats i f s at before more =
 
 -- with those of all
 pub all_lines :
-    (old now : List ℕ) (fields : List Field) (stats : List FieldStats) (i n : ℕ) → n ≡ min (length fields) (length stats)
-    → n ≤ i → now ≡ with_lines old i fields stats → now ≡ old ++ flat_map pair_lines (zip fields stats)
+    (old now : List ℕ) (fields : List Field) (stats : List FieldStats) (i n : ℕ) →
+    n ≡ min (length fields) (length stats) → n ≤ i → now ≡ with_lines old i fields stats → now ≡ old ++ flat_map pair_lines (zip fields stats)
 all_lines old now fields stats i n count le is =
     let pairs = zip fields stats in
     let many : length pairs ≤ i = omega (arith, length-zip fields stats, count, le) in
     is ∙ ap (λ (l : List (Field × FieldStats)). old ++ flat_map pair_lines l) (take_all i pairs many)
+
+-- how many floats are numbers, then their bounds, then how many are no numbers
+pub floats_appended :
+    {E : Type 0} (r : Result (Unit {0}) E) (s : FloatSummary) {old one two new : List ℕ} {m n : ℕ} → m ≡ s.count →
+    n ≡ s.not_numbers → one ≡ old ++ named_number (codes " count=") m → two ≡ one ++ bounds_text s →
+    OnOk r (new ≡ two ++ named_number (codes " not_numbers=") n) → OnOk r (new ≡ old ++ floats_text s)
+unfolding floats_text
+floats_appended (Ok u) s {old} {one} {two} {new} {m} {n} count others first second third =
+    let a : List ℕ = named_number (codes " count=") s.count in
+    let b : List ℕ = bounds_text s in
+    let c : List ℕ = named_number (codes " not_numbers=") s.not_numbers in
+    let one_is : one ≡ old ++ a = first ∙ ap (λ (k : ℕ). old ++ named_number (codes " count=") k) count in
+    let two_is : two ≡ old ++ a ++ b = second ∙ ap (λ (l : List ℕ). l ++ b) one_is in
+    third ∙ ap (λ (k : ℕ). two ++ named_number (codes " not_numbers=") k) others
+    ∙ ap (λ (l : List ℕ). l ++ c) (two_is ∙ append_assoc old a b) ∙ append_assoc old (a ++ b) c
+floats_appended (Err e) s count others first second third = tt

@@ -49,9 +49,16 @@ unfoldable pub bounds_text : FloatSummary → List ℕ
 bounds_text s = if s.count == 0 then []
     else codes " least=" ++ float_text s.least ++ codes " greatest=" ++ float_text s.greatest
 
+-- a number after what it is
+unfoldable pub named_number : List ℕ → ℕ → List ℕ
+named_number name n = name ++ decimal n
+
+unfoldable pub floats_text : FloatSummary → List ℕ
+floats_text s = named_number (codes " count=") s.count ++ bounds_text s
+    ++ named_number (codes " not_numbers=") s.not_numbers
+
 unfoldable pub float_line : List ℕ → FloatSummary → List ℕ
-float_line name s = head_text (codes "floats") name ++ codes " count=" ++ decimal s.count ++ bounds_text s
-    ++ codes " not_numbers=" ++ decimal s.not_numbers ++ codes "\n"
+float_line name s = head_text (codes "floats") name ++ floats_text s ++ codes "\n"
 
 -- the line of floats, where any were counted
 unfoldable pub float_lines : List ℕ → FloatSummary → List ℕ

@@ -6,7 +6,7 @@ ghost use Rattle.trace_lines.specs.Appending.{AppendsText};
 ghost use Rattle.gotymbe_plan.specs.Statistics.{stats_lines, schema_lines, schema_line, counts_text, pair_lines};
 ghost use Rattle.gotymbe_plan.specs.Statistics.{field_lines, summary_lines, summary_line, head_text, numbers_text};
 ghost use Rattle.gotymbe_plan.specs.Statistics.{digit_text, least_of, greatest_of, float_lines, float_line};
-ghost use Rattle.gotymbe_plan.specs.Statistics.{bounds_text, float_text};
+ghost use Rattle.gotymbe_plan.specs.Statistics.{bounds_text, float_text, floats_text, named_number};
 
 use std::alloc::AllocError;
 use trace_lines::text::{push_quoted, push_sixteen_digits};
@@ -110,11 +110,27 @@ fn push_float_line(out: &mut String, name: &str, floats: &FloatSummary) -> Resul
     ensures { AppendsText (float_line name.now floats.now) out.old out.new result }
 {
     push_head(out, "floats", name)?;
-    let (count, not_numbers) = (floats.count(), floats.not_numbers());
-    write!(out, " count={count}")?;
-    push_bounds(out, floats)?;
-    write!(out, " not_numbers={not_numbers}")?;
+    push_float_counts(out, floats)?;
     out.push('\n')
+}
+
+// Appends how many floats are numbers, their bounds, and how many are no numbers.
+#[tactic(auto, unfolding(crate::specs::Statistics::floats_text))]
+fn push_float_counts(out: &mut String, floats: &FloatSummary) -> Result<(), AllocError>
+    ensures { AppendsText (floats_text floats.now) out.old out.new result }
+{
+    push_named(out, " count=", floats.count())?;
+    push_bounds(out, floats)?;
+    push_named(out, " not_numbers=", floats.not_numbers())
+}
+
+// Appends a number after what it is.
+#[tactic(auto, unfolding(crate::specs::Statistics::named_number))]
+fn push_named(out: &mut String, name: &str, number: u64) -> Result<(), AllocError>
+    ensures { AppendsText (named_number name.now number) out.old out.new result }
+{
+    out.push_str(name)?;
+    write!(out, "{number}")
 }
 
 // Appends the least and the greatest of floats, where there are any that are numbers.
