@@ -23,10 +23,10 @@ pub record FieldAt (fields : List Field) (stats : List FieldStats) (i : ℕ) (f 
 
 -- with the lines of one more
 pub one_more :
-    (old now next : List ℕ) (fields : List Field) (stats : List FieldStats) (i : ℕ) (f : Field) (s : FieldStats) →
+    {old now next : List ℕ} (fields : List Field) (stats : List FieldStats) (i : ℕ) (f : Field) (s : FieldStats) →
     FieldAt fields stats i f s → now ≡ with_lines old i fields stats → next ≡ now ++ field_lines f.name s →
     next ≡ with_lines old (i + 1) fields stats
-one_more old now next fields stats i f s at before more =
+one_more {old} {now} {next} fields stats i f s at before more =
     let pairs = zip fields stats in
     let lt : i < length pairs = omega (arith, at.inside, at.kept, length-zip fields stats) in
     let here : get_or pairs i (f, s) ≡ (f, s) =
@@ -39,7 +39,8 @@ one_more old now next fields stats i f s at before more =
 -- with those of all
 pub all_lines :
     (old now : List ℕ) (fields : List Field) (stats : List FieldStats) (i n : ℕ) →
-    n ≡ min (length fields) (length stats) → n ≤ i → now ≡ with_lines old i fields stats → now ≡ old ++ flat_map pair_lines (zip fields stats)
+    n ≡ min (length fields) (length stats) → n ≤ i → now ≡ with_lines old i fields stats →
+    now ≡ old ++ flat_map pair_lines (zip fields stats)
 all_lines old now fields stats i n count le is =
     let pairs = zip fields stats in
     let many : length pairs ≤ i = omega (arith, length-zip fields stats, count, le) in
