@@ -47,10 +47,6 @@ struct FirstClock {
 }
 
 impl FrameSink for FirstClock {
-    fn begin(&mut self, _: u8) -> Result<(), Ending> {
-        Ok(())
-    }
-
     fn frame<'f>(
         &mut self,
         frame: &'f DecodedFrame,
@@ -62,14 +58,6 @@ impl FrameSink for FirstClock {
             Some(_) => Err(Ending::Whole),
             None => Ok(()),
         }
-    }
-
-    fn settle(&mut self) -> Result<(), Ending> {
-        Ok(())
-    }
-
-    fn end(&mut self, _: Ending, _: usize) -> Result<(), Ending> {
-        Ok(())
     }
 }
 

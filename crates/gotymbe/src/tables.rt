@@ -255,10 +255,6 @@ impl<'c, 'r, R: AllocGlobal + Files<File = File>> Tables<'c, 'r, R> {
 }
 
 impl<R: AllocGlobal + Files<File = File>> FrameSink for Tables<'_, '_, R> {
-    fn begin(&mut self, _: u8) -> Result<(), Ending> {
-        Ok(())
-    }
-
     fn frame<'f>(
         &mut self,
         frame: &'f DecodedFrame,
@@ -271,14 +267,6 @@ impl<R: AllocGlobal + Files<File = File>> FrameSink for Tables<'_, '_, R> {
         let place = self.place_for(&event)?;
         self.push_row(place, &event)?;
         self.picked.go_on()
-    }
-
-    fn settle(&mut self) -> Result<(), Ending> {
-        Ok(())
-    }
-
-    fn end(&mut self, _: Ending, _: usize) -> Result<(), Ending> {
-        Ok(())
     }
 }
 

@@ -25,10 +25,6 @@ struct Entries<'c, 'o, W: TraceWrite> {
 }
 
 impl<W: TraceWrite> FrameSink for Entries<'_, '_, W> {
-    fn begin(&mut self, _: u8) -> Result<(), Ending> {
-        Ok(())
-    }
-
     fn frame<'f>(
         &mut self,
         frame: &'f DecodedFrame,

@@ -40,10 +40,6 @@ impl Gathered<'_> {
 }
 
 impl FrameSink for Gathered<'_> {
-    fn begin(&mut self, _: u8) -> Result<(), Ending> {
-        Ok(())
-    }
-
     fn frame<'f>(
         &mut self,
         frame: &'f DecodedFrame,
@@ -58,14 +54,6 @@ impl FrameSink for Gathered<'_> {
         };
         self.data.add(&event, bytes)?;
         self.picked.go_on()
-    }
-
-    fn settle(&mut self) -> Result<(), Ending> {
-        Ok(())
-    }
-
-    fn end(&mut self, _: Ending, _: usize) -> Result<(), Ending> {
-        Ok(())
     }
 }
 
