@@ -24,6 +24,33 @@ const FAULTS: [Fault; 3] = [
 /// How many bytes writers take at most at a time.
 const STEPS: [usize; 3] = [1, 7, 1_000_000];
 
+/// What is tried over writers that fail.
+#[derive(Clone, Copy, PartialEq, Eq, Debug)]
+enum Trial {
+    /// A worked trace, by such calls.
+    Worked(Worked, Way),
+    /// What no worked trace has.
+    Apart(Tried),
+}
+
+impl Trial {
+    /// At how many places a writer fails, from the first on.
+    fn places(self) -> usize {
+        match self {
+            Trial::Worked(worked, _) => bytes_of(worked).len().saturating_add(1),
+            Trial::Apart(tried) => places_of(tried),
+        }
+    }
+
+    /// Whether all is as it should be over a writer of this manner.
+    fn is_right(self, alloc: Global, manner: Manner) -> Result<bool, AllocError> {
+        match self {
+            Trial::Worked(worked, way) => is_right(alloc, worked, manner, way),
+            Trial::Apart(tried) => Ok(is_right_apart(alloc, tried, manner)),
+        }
+    }
+}
+
 /// How many were tried, and how many were not right.
 #[derive(Clone, Copy)]
 pub struct Counts {
@@ -77,8 +104,9 @@ fn run_all(rt: &(impl AllocGlobal + Print)) -> anyhow::Result<bool> {
 /// Writes one trace over all writers, and prints the counts.
 fn run_worked(rt: &(impl AllocGlobal + Print), worked: Worked) -> anyhow::Result<bool> {
     let length = bytes_of(worked).len();
-    let single = counts_by(rt.alloc(), worked, Way::Single)?;
-    let listed = counts_by(rt.alloc(), worked, Way::Listed)?;
+    let (mut single, mut listed) = (Counts::new(), Counts::new());
+    count_each(rt.alloc(), Trial::Worked(worked, Way::Single), &mut single)?;
+    count_each(rt.alloc(), Trial::Worked(worked, Way::Listed), &mut listed)?;
     let name = name_of(worked);
     let (calls, lists) = (single.tried, listed.tried);
     let differ = single.differ.saturating_add(listed.differ);
@@ -86,10 +114,9 @@ fn run_worked(rt: &(impl AllocGlobal + Print), worked: Worked) -> anyhow::Result
     Ok(differ == 0)
 }
 
-fn counts_by(alloc: Global, worked: Worked, way: Way) -> Result<Counts, AllocError> {
-    let mut counts = Counts::new();
-    let places = bytes_of(worked).len().saturating_add(1);
-    for place in 0..places {
+/// Tries it over all writers that fail.
+fn count_each(alloc: Global, trial: Trial, counts: &mut Counts) -> Result<(), AllocError> {
+    for place in 0..trial.places() {
         for most in STEPS {
             for fault in FAULTS {
                 for once in [false, true] {
@@ -100,12 +127,12 @@ fn counts_by(alloc: Global, worked: Worked, way: Way) -> Result<Counts, AllocErr
                         once,
                         flushing: None,
                     };
-                    counts.add(is_right(alloc, worked, manner, way)?);
+                    counts.add(trial.is_right(alloc, manner)?);
                 }
             }
         }
     }
-    Ok(counts)
+    Ok(())
 }
 
 /// Tries what comes after a failure, and prints the counts.
@@ -136,9 +163,7 @@ fn run_afterwards(rt: &(impl AllocGlobal + Print)) -> anyhow::Result<bool> {
 fn run_apart(rt: &(impl AllocGlobal + Print)) -> anyhow::Result<bool> {
     let mut counts = Counts::new();
     for tried in TRIED {
-        for place in 0..places_of(tried) {
-            count_at(rt.alloc(), tried, place, &mut counts);
-        }
+        count_each(rt.alloc(), Trial::Apart(tried), &mut counts)?;
     }
     for most in STEPS {
         count_twice(rt.alloc(), most, &mut counts);
@@ -146,24 +171,6 @@ fn run_apart(rt: &(impl AllocGlobal + Print)) -> anyhow::Result<bool> {
     let (tried, differ) = (counts.tried, counts.differ);
     println!(rt; "beside the traces: {tried} tried; {differ} differ")?;
     Ok(differ == 0)
-}
-
-/// Tries it over writers that fail at this place.
-fn count_at(alloc: Global, tried: Tried, place: usize, counts: &mut Counts) {
-    for most in STEPS {
-        for fault in FAULTS {
-            for once in [false, true] {
-                let manner = Manner {
-                    most,
-                    place,
-                    fault,
-                    once,
-                    flushing: None,
-                };
-                counts.add(is_right_apart(alloc, tried, manner));
-            }
-        }
-    }
 }
 
 /// Makes each call twice over a writer that takes so many bytes at a time, and would fail to flush.

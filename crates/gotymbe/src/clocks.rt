@@ -1,8 +1,9 @@
 //! The clocks of traces, which dates go by (docs/ROLES.md, "Clocks").
 
-ghost use Rattle.std.specs.Prelude.{◌≡◌, None, codes, option_map};
+ghost use Rattle.std.specs.Prelude.{◌≡◌, ◌↔◌, None, Ok, IfOk, IsErr, codes, option_map};
 ghost use Rattle.dial9_trace_format.specs.DecodedFrames.{item_of};
 ghost use Rattle.gotymbe_plan.specs.Moments.{IsAnyDate};
+ghost use Rattle.gotymbe_plan.specs.declared.ending.Ending.TheVariants.{OutOfMemory};
 ghost use Rattle.gotymbe.specs.Clocks.{IsZeroBy, IsZeroSaid};
 
 use crate::output::standing;
@@ -11,7 +12,7 @@ use crate::tasks::Call;
 use dial9_trace_format::decoder::{DecodedFrame, FeedDecoder};
 use gotymbe_plan::ending::Ending;
 use gotymbe_plan::output::Standing;
-use std::alloc::Global;
+use std::alloc::{AllocError, Global};
 use std::fs::File;
 use std::rt::{Clock, Files};
 use trace_roles::clock::clock_of;
@@ -46,10 +47,6 @@ struct FirstClock {
 }
 
 impl FrameSink for FirstClock {
-    fn begin(&mut self, _: u8) -> Result<(), Ending> {
-        Ok(())
-    }
-
     fn frame<'f>(
         &mut self,
         frame: &'f DecodedFrame,
@@ -62,44 +59,52 @@ impl FrameSink for FirstClock {
             None => Ok(()),
         }
     }
-
-    fn settle(&mut self) -> Result<(), Ending> {
-        Ok(())
-    }
-
-    fn end(&mut self, _: Ending, _: usize) -> Result<(), Ending> {
-        Ok(())
-    }
 }
 
 /// The zero of the first clock that a file says, where a date is asked for: it is read up to there. `None` where none
-/// is, where the file says no clock, and of what can't be read twice, as standard input and pipes.
+/// is, where the file says no clock, and of what can't be read twice, as standard input and pipes. `AllocError` where a
+/// growth was refused.
 pub(crate) fn zero_of(
     rt: &(impl AllocGlobal + Files<File = File> + Input + Eprint + Clock),
     call: &Call<'_>,
     name: &str,
-) -> Option<i64>
-    ensures undated { ¬ IsAnyDate call.now.from call.now.to → result ≡ None }
-    ensures standard { name.now ≡ codes "-" → result ≡ None }
+) -> Result<Option<i64>, AllocError>
+    ensures undated { ¬ IsAnyDate call.now.from call.now.to → result ≡ Ok None }
+    ensures standard { name.now ≡ codes "-" → result ≡ Ok None }
 {
     if !call.has_dates() || name == "-" || standing(rt, name) != Standing::File {
-        return None;
+        return Ok(None);
     }
     let mut first = FirstClock { zero: None };
-    let _ = read_named(rt, call, name, &mut first);
-    first.zero
+    let ending = read_named(rt, call, name, &mut first);
+    zero_unless(ending, first.zero)
 }
 
-/// The zero of the first clock that a trace says, where a date is asked for.
-pub(crate) fn zero_in(alloc: Global, call: &Call<'_>, trace: &[u8]) -> Option<i64>
-    ensures { ¬ IsAnyDate call.now.from call.now.to → result ≡ None }
+/// The zero of the first clock that a trace says, where a date is asked for. `AllocError` where a growth was refused.
+pub(crate) fn zero_in(
+    alloc: Global,
+    call: &Call<'_>,
+    trace: &[u8],
+) -> Result<Option<i64>, AllocError>
+    ensures { ¬ IsAnyDate call.now.from call.now.to → result ≡ Ok None }
 {
     if !call.has_dates() {
-        return None;
+        return Ok(None);
     }
     let mut first = FirstClock { zero: None };
     let mut decoder = FeedDecoder::new(alloc);
     let mut input = trace;
-    let _ = feed(&mut input, &mut decoder, &mut first, u64::MAX);
-    first.zero
+    let ending = feed(&mut input, &mut decoder, &mut first, u64::MAX);
+    zero_unless(ending, first.zero)
+}
+
+// This zero, unless memory was refused where it was looked for.
+fn zero_unless(ending: Ending, zero: Option<i64>) -> Result<Option<i64>, AllocError>
+    ensures refused { IsErr result ↔ (ending ≡ OutOfMemory) }
+    ensures zero { IfOk result (λ said. said ≡ zero) }
+{
+    match ending {
+        Ending::OutOfMemory => Err(AllocError),
+        _ => Ok(zero),
+    }
 }

@@ -18,27 +18,27 @@ mod pieces;
 mod tables;
 mod tasks;
 
-use crate::tasks::Call;
+use crate::output::STANDARD;
+use crate::tasks::{Call, tell};
 use clap::ArgMatches;
 use clap::error::ErrorKind;
+use gotymbe_plan::ending::Ending;
 use gotymbe_plan::moments::{moment_given, push_no_moment};
 use gotymbe_words::asked::{Asked, status_by, task_of, what_is_asked};
 use gotymbe_words::command::command;
+use std::alloc::AllocError;
 use std::fs::File;
 use std::io::IsTerminal;
 use std::process::ExitCode;
 use std::rt::{Clock, Env, Files};
 use std::{env, io};
-use trace_lines::dump::FAILED;
+use trace_lines::dump::{FAILED, WHOLE};
 
 fn main(rt: HostRuntime) -> ExitCode {
     let terminal = rt.stderr().is_terminal();
     match run(&rt, terminal) {
         Ok(status) => ExitCode::from(status),
-        Err(error) => {
-            let _ = eprintln!(rt; "gotymbe: {error}");
-            ExitCode::from(FAILED)
-        }
+        Err(_) => ExitCode::from(tell_no_memory(&rt)),
     }
 }
 
@@ -46,7 +46,7 @@ fn main(rt: HostRuntime) -> ExitCode {
 fn run(
     rt: &(impl AllocGlobal + Env + Files<File = File> + Input + Print + Eprint + Clock),
     terminal: bool,
-) -> anyhow::Result<u8> {
+) -> Result<u8, AllocError> {
     let alloc = rt.alloc();
     let words = match env::args(rt) {
         Ok(words) => words,
@@ -61,13 +61,18 @@ fn run_words(
     rt: &(impl AllocGlobal + Files<File = File> + Input + Print + Eprint + Clock),
     words: &[String],
     terminal: bool,
-) -> anyhow::Result<u8> {
+) -> Result<u8, AllocError> {
     let command = command(rt.alloc())?;
     match command.try_get_matches_from(words) {
         Ok(matches) => run_matches(rt, &matches, terminal),
         Err(error) => {
-            let _ = error.print(rt);
-            Ok(status_by(error.kind()))
+            let status = status_by(error.kind());
+            match error.print(rt) {
+                Err(fault) if status == WHOLE => {
+                    tell(rt, STANDARD, Ending::Unwritten(fault.kind()))
+                }
+                _ => Ok(status),
+            }
         }
     }
 }
@@ -77,7 +82,7 @@ fn run_matches(
     rt: &(impl AllocGlobal + Files<File = File> + Input + Print + Eprint + Clock),
     matches: &ArgMatches<'_>,
     terminal: bool,
-) -> anyhow::Result<u8> {
+) -> Result<u8, AllocError> {
     match matches.subcommand() {
         Some((name, given)) => match task_of(name) {
             Some(task) => {
@@ -100,11 +105,16 @@ fn tell_no_words(rt: &impl Eprint, kind: io::ErrorKind) -> u8
             let _ = eprintln!(rt; "error: a word of the call is no text in UTF-8");
             status_by(ErrorKind::InvalidValue)
         }
-        _ => {
-            let _ = eprintln!(rt; "gotymbe: out of memory");
-            status_by(ErrorKind::OutOfMemory)
-        }
+        _ => tell_no_memory(rt),
     }
+}
+
+// Tells that a growth was refused where no file can be told, and answers the status.
+fn tell_no_memory(rt: &impl Eprint) -> u8
+    ensures { result ≡ 4 }
+{
+    let _ = eprintln!(rt; "gotymbe: out of memory");
+    FAILED
 }
 
 // Does what is asked for, and answers the status; where a text that is given for a time says none, it tells that alone.
@@ -112,7 +122,7 @@ fn carry_out(
     rt: &(impl AllocGlobal + Files<File = File> + Input + Print + Eprint + Clock),
     asked: &Asked<'_>,
     terminal: bool,
-) -> anyhow::Result<u8> {
+) -> Result<u8, AllocError> {
     match call_of(asked, terminal) {
         Ok(call) => tasks::carry_out(rt, &call),
         Err((option, text)) => tell_no_moment(rt, option, text),
@@ -147,7 +157,11 @@ fn call_of<'a>(asked: &'a Asked<'a>, terminal: bool) -> Result<Call<'a>, (&'stat
 }
 
 // Tells that a text says no time, and answers the status.
-fn tell_no_moment(rt: &(impl AllocGlobal + Eprint), option: &str, text: &str) -> anyhow::Result<u8>
+fn tell_no_moment(
+    rt: &(impl AllocGlobal + Eprint),
+    option: &str,
+    text: &str,
+) -> Result<u8, AllocError>
     ensures { IfOk result (λ status. status ≡ 64) }
 {
     let mut line = String::new(rt.alloc());

@@ -64,19 +64,23 @@ pub(crate) fn begin(
     force: bool,
 ) -> Result<Written, Ending> {
     let way = way_of(standing(rt, name), force);
+    // (what needs memory comes before the file is made)
+    let held = String::from_str(rt.alloc(), name)?;
     let begun = match way {
         Way::Refused => Err(io::Error::from(ErrorKind::AlreadyExists)),
         Way::Into => into_place(rt, name),
         Way::Beside | Way::InPlace => beside(rt, name),
     };
-    let name = String::from_str(rt.alloc(), name);
-    match (begun, name) {
-        (Ok((file, beside)), Ok(name)) => Ok(Written {
+    match begun {
+        Ok((file, beside)) => Ok(Written {
             file,
-            place: Place { name, beside, way },
+            place: Place {
+                name: held,
+                beside,
+                way,
+            },
         }),
-        (Ok((file, beside)), Err(_)) => Err(Ending::OutOfMemory),
-        (Err(error), _) => Err(Ending::Unwritten(error.kind())),
+        Err(error) => Err(Ending::Unwritten(error.kind())),
     }
 }
 

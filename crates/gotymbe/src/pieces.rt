@@ -21,10 +21,13 @@ use trace_stats::trace::TraceStats;
 // So many bytes at most are read at once.
 const PIECE: usize = 16_384;
 
-/// What takes frames, each with the decoder that gave it and how many bytes it took.
+/// What takes frames, each with the decoder that gave it and how many bytes it took. A sink leaves out the other calls
+/// where it does nothing.
 pub(crate) trait FrameSink {
     /// Learns the version of the trace, before its first frame.
-    fn begin(&mut self, version: u8) -> Result<(), Ending>;
+    fn begin(&mut self, _version: u8) -> Result<(), Ending> {
+        Ok(())
+    }
 
     /// Takes a frame; or an ending, where no more are taken.
     fn frame<'f>(
@@ -35,10 +38,14 @@ pub(crate) trait FrameSink {
     ) -> Result<(), Ending>;
 
     /// Hands on what it holds: no frame comes before more is read.
-    fn settle(&mut self) -> Result<(), Ending>;
+    fn settle(&mut self) -> Result<(), Ending> {
+        Ok(())
+    }
 
     /// Learns how reading ended, and how many bytes the frames have.
-    fn end(&mut self, ending: Ending, position: usize) -> Result<(), Ending>;
+    fn end(&mut self, _ending: Ending, _position: usize) -> Result<(), Ending> {
+        Ok(())
+    }
 }
 
 /// Takes all frames, and does nothing with them.
@@ -46,19 +53,7 @@ pub(crate) trait FrameSink {
 pub(crate) struct Nothing;
 
 impl FrameSink for Nothing {
-    fn begin(&mut self, _: u8) -> Result<(), Ending> {
-        Ok(())
-    }
-
     fn frame<'f>(&mut self, _: &'f DecodedFrame, _: &'f FeedDecoder, _: u64) -> Result<(), Ending> {
-        Ok(())
-    }
-
-    fn settle(&mut self) -> Result<(), Ending> {
-        Ok(())
-    }
-
-    fn end(&mut self, _: Ending, _: usize) -> Result<(), Ending> {
         Ok(())
     }
 }
@@ -127,10 +122,6 @@ pub(crate) struct Tally<'n> {
 }
 
 impl FrameSink for Tally<'_> {
-    fn begin(&mut self, _: u8) -> Result<(), Ending> {
-        Ok(())
-    }
-
     fn frame<'f>(
         &mut self,
         frame: &'f DecodedFrame,
@@ -144,14 +135,6 @@ impl FrameSink for Tally<'_> {
             Ok(()) => self.picked.go_on(),
             Err(error) => Err(Ending::from(error)),
         }
-    }
-
-    fn settle(&mut self) -> Result<(), Ending> {
-        Ok(())
-    }
-
-    fn end(&mut self, _: Ending, _: usize) -> Result<(), Ending> {
-        Ok(())
     }
 }
 

@@ -84,28 +84,31 @@ impl<'c, 'r, R: AllocGlobal + Files<File = File>> Tables<'c, 'r, R> {
         Ok(place)
     }
 
-    // Begins the table of a schema.
+    // Begins the table of a schema. Its file is begun last, and removed where the table can't be kept.
     fn put_last(&mut self, schema: &SchemaEntry) -> Result<usize, Ending> {
         let (alloc, place) = (self.rt.alloc(), self.tables.len());
         let name = table_name(alloc, place as u64 + 1, schema.name())?;
         let path = path_of(alloc, self.folder, &name, "csv")?;
-        let begun = self.begin(path)?;
         let mut text = Writer::from_writer(Vec::new(alloc));
         put_columns(alloc, &mut self.row, schema.fields())?;
         if text.write_byte_record(&self.row).is_err() {
             return Err(Ending::OutOfMemory);
         }
-        let schema = SchemaEntry::new(alloc, schema.name(), schema.fields())?;
         let table = Table {
-            schema,
+            schema: SchemaEntry::new(alloc, schema.name(), schema.fields())?,
             name,
-            place: begun,
+            place: self.begin(path)?,
             rows: 0,
             text,
             held: 0,
         };
-        self.tables.push(table)?;
-        Ok(place)
+        match self.tables.push(table) {
+            Ok(()) => Ok(place),
+            Err(refused) => {
+                refused.value.place.give_up(self.rt);
+                Err(Ending::OutOfMemory)
+            }
+        }
     }
 
     // Begins a file.
@@ -252,10 +255,6 @@ impl<'c, 'r, R: AllocGlobal + Files<File = File>> Tables<'c, 'r, R> {
 }
 
 impl<R: AllocGlobal + Files<File = File>> FrameSink for Tables<'_, '_, R> {
-    fn begin(&mut self, _: u8) -> Result<(), Ending> {
-        Ok(())
-    }
-
     fn frame<'f>(
         &mut self,
         frame: &'f DecodedFrame,
@@ -268,14 +267,6 @@ impl<R: AllocGlobal + Files<File = File>> FrameSink for Tables<'_, '_, R> {
         let place = self.place_for(&event)?;
         self.push_row(place, &event)?;
         self.picked.go_on()
-    }
-
-    fn settle(&mut self) -> Result<(), Ending> {
-        Ok(())
-    }
-
-    fn end(&mut self, _: Ending, _: usize) -> Result<(), Ending> {
-        Ok(())
     }
 }
 

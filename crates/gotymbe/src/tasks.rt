@@ -1,7 +1,8 @@
 //! What is done, task by task.
 
-ghost use Rattle.std.specs.Prelude.{◌≡◌, ◌↔◌, IfOk, IsTrue};
+ghost use Rattle.std.specs.Prelude.{◌≡◌, ◌↔◌, IfOk, OnOk, OnErr, IsTrue};
 ghost use Rattle.gotymbe_plan.specs.Endings.{HasStatus};
+ghost use Rattle.gotymbe_plan.specs.declared.ending.Ending.TheVariants.{OutOfMemory};
 ghost use Rattle.gotymbe_plan.specs.Moments.{IsAnyDate};
 
 use crate::input::read_all;
@@ -61,14 +62,29 @@ impl Call<'_> {
 pub(crate) fn carry_out(
     rt: &(impl AllocGlobal + Files<File = File> + Input + Print + Eprint + Clock),
     call: &Call<'_>,
-) -> anyhow::Result<u8> {
+) -> Result<u8, AllocError> {
     let done = match call.asked.task {
         Task::Check => showing::check(rt, call),
         Task::Csv => tabling::write_tables(rt, call),
         Task::Follow => following::follow(rt, call),
         _ => write(rt, call),
     };
-    Ok(done?)
+    or_told(rt, call.asked.output.unwrap_or(STANDARD), done)
+}
+
+// The status of what was done; where memory was refused, that is told of what is written.
+fn or_told(
+    rt: &(impl AllocGlobal + Eprint),
+    written: &str,
+    done: Result<u8, AllocError>,
+) -> Result<u8, AllocError>
+    ensures done { OnOk done (result ≡ done) }
+    ensures refused { OnErr done (IfOk result (HasStatus OutOfMemory)) }
+{
+    match done {
+        Ok(status) => Ok(status),
+        Err(_) => tell(rt, written, Ending::OutOfMemory),
+    }
 }
 
 /// Tells how the reading of a file ended, and answers the status.

@@ -1,9 +1,10 @@
 -- The lines that tell what events add up to.
-use Rattle.std.specs.Prelude.{ℕ, ◌==◌, cond, if◌then◌else◌, List, [], ◌++◌, codes, None, Some, unwrap_or}
+use Rattle.std.specs.Prelude.{ℕ, ◌==◌, ◌&&◌, cond, if◌then◌else◌, List, [], ◌++◌, codes, None, Some, unwrap_or}
 use Rattle.std.specs.List.{flat_map, enumerate_from, zip}
 use Rattle.std.specs.Fmt.{decimal}
 use Rattle.trace_wire.specs.Schemas.{Field}
-use Rattle.trace_lines.specs.Lines.{quoted}
+use Rattle.trace_lines.specs.Lines.{quoted, sixteen_digits}
+use Rattle.trace_stats.specs.declared.float.FloatSummary.{FloatSummary}
 use Rattle.trace_stats.specs.declared.summary.Summary.{Summary}
 use Rattle.trace_stats.specs.declared.field.FieldStats.{FieldStats}
 use Rattle.trace_stats.specs.declared.schema.SchemaStats.{SchemaStats}
@@ -39,10 +40,36 @@ summary_line kind name s = head_text kind name ++ numbers_text s ++ digits_text 
 unfoldable pub summary_lines : List ℕ → List ℕ → Summary → List ℕ
 summary_lines kind name s = if s.count == 0 then [] else summary_line kind name s
 
--- the lines of a field: its numbers from 0 on, how far others lie below 0, and how long texts, bytes and stacks are
+-- a float, by its bits, as in dumps
+unfoldable pub float_text : ℕ → List ℕ
+float_text n = codes "0x" ++ sixteen_digits n
+
+-- the least and the greatest of floats, where there are any that are numbers
+unfoldable pub bounds_text : FloatSummary → List ℕ
+bounds_text s = if s.count == 0 then []
+    else codes " least=" ++ float_text s.least ++ codes " greatest=" ++ float_text s.greatest
+
+-- a number after what it is
+unfoldable pub named_number : List ℕ → ℕ → List ℕ
+named_number name n = name ++ decimal n
+
+unfoldable pub floats_text : FloatSummary → List ℕ
+floats_text s = named_number (codes " count=") s.count ++ bounds_text s
+    ++ named_number (codes " not_numbers=") s.not_numbers
+
+unfoldable pub float_line : List ℕ → FloatSummary → List ℕ
+float_line name s = head_text (codes "floats") name ++ floats_text s ++ codes "\n"
+
+-- the line of floats, where any were counted
+unfoldable pub float_lines : List ℕ → FloatSummary → List ℕ
+float_lines name s = if s.count == 0 && s.not_numbers == 0 then [] else float_line name s
+
+-- the lines of a field: its numbers from 0 on, how far others lie below 0, its floats, and how long texts, bytes and
+-- stacks are
 unfoldable pub field_lines : List ℕ → FieldStats → List ℕ
 field_lines name f = summary_lines (codes "numbers") name f.naturals
-    ++ summary_lines (codes "negatives") name f.negatives ++ summary_lines (codes "lengths") name f.lengths
+    ++ summary_lines (codes "negatives") name f.negatives ++ float_lines name f.floats
+    ++ summary_lines (codes "lengths") name f.lengths
 
 -- how many events there are, their bytes, and their first and last time
 unfoldable pub counts_text : SchemaStats → List ℕ

@@ -452,6 +452,8 @@ fn error_text(kind: ErrorKind) -> &'static str
         ErrorKind::AlreadyExists => "is there already (--force writes in its place)",
         ErrorKind::IsADirectory => "is a folder",
         ErrorKind::NotADirectory => "a part of the name is no folder",
+        ErrorKind::InvalidFilename => "the name is too long",
+        ErrorKind::FilesystemLoop => "links lead in a circle",
         ErrorKind::StorageFull => "no space left",
         ErrorKind::ReadOnlyFilesystem => "read-only file system",
         ErrorKind::FileTooLarge => "file too large",

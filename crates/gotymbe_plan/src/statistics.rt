@@ -1,15 +1,17 @@
 //! Lines that tell what events add up to (docs/TOOLS.md, "Statistics").
 
-ghost use Rattle.std.specs.Prelude.{◌≡◌, ◌++◌, ◌∷◌, ◌+◌, ◌<◌, ◌^◌, codes, length};
+ghost use Rattle.std.specs.Prelude.{◌≡◌, ◌++◌, ◌+◌, ◌<◌, ◌^◌, codes, length};
 ghost use Rattle.std.specs.List.{flat_map, enumerate_from, zip};
 ghost use Rattle.trace_lines.specs.Appending.{AppendsText};
 ghost use Rattle.gotymbe_plan.specs.Statistics.{stats_lines, schema_lines, schema_line, counts_text, pair_lines};
 ghost use Rattle.gotymbe_plan.specs.Statistics.{field_lines, summary_lines, summary_line, head_text, numbers_text};
-ghost use Rattle.gotymbe_plan.specs.Statistics.{digit_text, least_of, greatest_of};
+ghost use Rattle.gotymbe_plan.specs.Statistics.{digit_text, least_of, greatest_of, float_lines, float_line};
+ghost use Rattle.gotymbe_plan.specs.Statistics.{bounds_text, float_text, floats_text, named_number};
 
 use std::alloc::AllocError;
-use trace_lines::text::push_quoted;
+use trace_lines::text::{push_quoted, push_sixteen_digits};
 use trace_stats::field::FieldStats;
+use trace_stats::float::FloatSummary;
 use trace_stats::schema::SchemaStats;
 use trace_stats::summary::Summary;
 use trace_stats::trace::TraceStats;
@@ -43,7 +45,6 @@ fn push_schema(out: &mut String, schema: &SchemaStats) -> Result<(), AllocError>
 }
 
 // Appends the lines of fields.
-#[cycle(pairs)]
 fn push_fields(
     out: &mut String,
     fields: &[FieldDef],
@@ -51,30 +52,11 @@ fn push_fields(
 ) -> Result<(), AllocError>
     ensures { AppendsText (flat_map pair_lines (zip fields.now stats.now)) out.old out.new result }
 {
-    match stats {
-        [] => Ok(()),
-        [first, others @ ..] => push_fields_from(out, fields, first, others),
+    let count = fields.len().min(stats.len());
+    'pairs: for index in 0..count {
+        push_field(out, fields[index].name(), &stats[index])?;
     }
-}
-
-// Appends the lines of fields, the first and the others.
-#[cycle(pairs)]
-fn push_fields_from(
-    out: &mut String,
-    fields: &[FieldDef],
-    first: &FieldStats,
-    others: &[FieldStats],
-) -> Result<(), AllocError>
-    ensures { AppendsText (flat_map pair_lines (zip fields.now (first.now ∷ others.now))) out.old
-        out.new result }
-{
-    match fields {
-        [] => Ok(()),
-        [field, later @ ..] => {
-            push_field(out, field.name(), first)?;
-            push_fields(out, later, others)
-        }
-    }
+    Ok(())
 }
 
 // Appends the name of a schema, and how many events there are, their bytes and times.
@@ -100,14 +82,78 @@ fn push_counts(out: &mut String, schema: &SchemaStats) -> Result<(), AllocError>
     )
 }
 
-// Appends the lines of a field: of its numbers, of those below 0, and of its lengths, where there are any.
+// Appends the lines of a field: of its numbers, of those below 0, of its floats, and of its lengths, where there are
+// any.
 #[tactic(auto, unfolding(crate::specs::Statistics::field_lines))]
 fn push_field(out: &mut String, name: &str, stats: &FieldStats) -> Result<(), AllocError>
     ensures { AppendsText (field_lines name.now stats.now) out.old out.new result }
 {
     push_summary(out, "numbers", name, stats.naturals())?;
     push_summary(out, "negatives", name, stats.negatives())?;
+    push_floats(out, name, stats.floats())?;
     push_summary(out, "lengths", name, stats.lengths())
+}
+
+// Appends the line of floats, where any were counted.
+#[tactic(auto, unfolding(crate::specs::Statistics::float_lines))]
+fn push_floats(out: &mut String, name: &str, floats: &FloatSummary) -> Result<(), AllocError>
+    ensures { AppendsText (float_lines name.now floats.now) out.old out.new result }
+{
+    if floats.count() == 0 && floats.not_numbers() == 0 {
+        return Ok(());
+    }
+    push_float_line(out, name, floats)
+}
+
+#[tactic(auto, unfolding(crate::specs::Statistics::float_line))]
+fn push_float_line(out: &mut String, name: &str, floats: &FloatSummary) -> Result<(), AllocError>
+    ensures { AppendsText (float_line name.now floats.now) out.old out.new result }
+{
+    push_head(out, "floats", name)?;
+    push_float_counts(out, floats)?;
+    out.push('\n')
+}
+
+// Appends how many floats are numbers, their bounds, and how many are no numbers.
+#[tactic(auto, unfolding(crate::specs::Statistics::floats_text))]
+fn push_float_counts(out: &mut String, floats: &FloatSummary) -> Result<(), AllocError>
+    ensures { AppendsText (floats_text floats.now) out.old out.new result }
+{
+    push_named(out, " count=", floats.count())?;
+    push_bounds(out, floats)?;
+    push_named(out, " not_numbers=", floats.not_numbers())
+}
+
+// Appends a number after what it is.
+#[tactic(auto, unfolding(crate::specs::Statistics::named_number))]
+fn push_named(out: &mut String, name: &str, number: u64) -> Result<(), AllocError>
+    ensures { AppendsText (named_number name.now number) out.old out.new result }
+{
+    out.push_str(name)?;
+    write!(out, "{number}")
+}
+
+// Appends the least and the greatest of floats, where there are any that are numbers.
+#[tactic(auto, unfolding(crate::specs::Statistics::bounds_text))]
+fn push_bounds(out: &mut String, floats: &FloatSummary) -> Result<(), AllocError>
+    ensures { AppendsText (bounds_text floats.now) out.old out.new result }
+{
+    let (Some(least), Some(greatest)) = (floats.least(), floats.greatest()) else {
+        return Ok(());
+    };
+    out.push_str(" least=")?;
+    push_float(out, least)?;
+    out.push_str(" greatest=")?;
+    push_float(out, greatest)
+}
+
+// Appends a float, by its bits.
+#[tactic(auto, unfolding(crate::specs::Statistics::float_text))]
+fn push_float(out: &mut String, bits: u64) -> Result<(), AllocError>
+    ensures { AppendsText (float_text bits) out.old out.new result }
+{
+    out.push_str("0x")?;
+    push_sixteen_digits(out, bits)
 }
 
 // Appends the line of a summary, where anything was counted.

@@ -1,5 +1,6 @@
 pub mod Counting
 pub mod FieldLemmas
+pub mod FloatLemmas
 pub mod SameLemmas
 pub mod SchemaLemmas
 pub mod TraceLemmas

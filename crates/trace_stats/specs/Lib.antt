@@ -1,4 +1,6 @@
 pub mod Summaries
+pub mod Floats
+pub mod FloatSummaries
 pub mod Fields
 pub mod Events
 pub mod Traces

@@ -5,16 +5,18 @@ ghost use Rattle.trace_values.specs.Values.{Value};
 ghost use Rattle.trace_stats.specs.Fields.{IsFieldOf, measure_of};
 ghost use Rattle.trace_stats.specs.Summaries.{most_counted};
 
+use crate::float::FloatSummary;
 use crate::full::Full;
 use crate::measure::Measure;
 use crate::summary::Summary;
 
-/// What the values of a field add up to: the numbers from 0 on, how far the others lie below 0, and how long texts,
-/// bytes and stacks are. Other values are in none of these.
+/// What the values of a field add up to: the numbers from 0 on, how far the others lie below 0, the floats, and how
+/// long texts, bytes and stacks are. Other values are in none of these.
 #[derive(Debug, Drop)]
 pub struct FieldStats {
     naturals: Summary,
     negatives: Summary,
+    floats: FloatSummary,
     lengths: Summary,
 }
 
@@ -26,6 +28,7 @@ impl FieldStats {
         FieldStats {
             naturals: Summary::new(),
             negatives: Summary::new(),
+            floats: FloatSummary::new(),
             lengths: Summary::new(),
         }
     }
@@ -43,6 +46,7 @@ impl FieldStats {
         match measure {
             Measure::Natural(number) => self.naturals.add(number),
             Measure::Negative(number) => self.negatives.add(number),
+            Measure::Float(bits) => self.floats.add(bits),
             Measure::Length(length) => self.lengths.add(length),
             Measure::Nothing => Ok(()),
         }
@@ -60,6 +64,13 @@ impl FieldStats {
         ensures { result.now ≡ self.now.negatives }
     {
         &self.negatives
+    }
+
+    /// The floats.
+    pub fn floats(&self) -> &FloatSummary
+        ensures { result.now ≡ self.now.floats }
+    {
+        &self.floats
     }
 
     /// How long each text, each list of bytes and each stack is: in bytes, and in addresses.

@@ -2,6 +2,7 @@
 #![tactic(auto)]
 
 pub mod field;
+pub mod float;
 pub mod full;
 mod measure;
 mod same;

@@ -16,6 +16,7 @@ macro_rules! measure_of {
         match $value {
             $values::I64(number) => measure_of_integer(*number),
             $values::Varint(number) => Measure::Natural(*number),
+            $values::F64(bits) => Measure::Float(*bits),
             $values::String(text) => Measure::Length(text.len() as u64),
             $values::Bytes(bytes) => Measure::Length(bytes.len() as u64),
             $values::StackFrames($frames) => Measure::Length($count),
@@ -41,6 +42,8 @@ pub(crate) enum Measure {
     Natural(u64),
     /// How far a number lies below 0.
     Negative(u64),
+    /// A float, by its bits.
+    Float(u64),
     /// How long a text, bytes or a stack is.
     Length(u64),
     /// Nothing.

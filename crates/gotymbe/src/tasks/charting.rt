@@ -25,10 +25,6 @@ struct Entries<'c, 'o, W: TraceWrite> {
 }
 
 impl<W: TraceWrite> FrameSink for Entries<'_, '_, W> {
-    fn begin(&mut self, _: u8) -> Result<(), Ending> {
-        Ok(())
-    }
-
     fn frame<'f>(
         &mut self,
         frame: &'f DecodedFrame,
@@ -79,9 +75,12 @@ pub(crate) fn chart_one<W: TraceWrite + Drop>(
     let Ok(text) = ChromeText::new(rt.alloc(), title) else {
         return Ending::OutOfMemory;
     };
+    let Ok(zero) = zero_of(rt, call, name) else {
+        return Ending::OutOfMemory;
+    };
     let mut entries = Entries {
         text,
-        picked: Picked::of(call, zero_of(rt, call, name)),
+        picked: Picked::of(call, zero),
         out,
     };
     read_named(rt, call, name, &mut entries)

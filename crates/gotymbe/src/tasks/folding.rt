@@ -25,10 +25,6 @@ struct Folding<'c> {
 }
 
 impl FrameSink for Folding<'_> {
-    fn begin(&mut self, _: u8) -> Result<(), Ending> {
-        Ok(())
-    }
-
     fn frame<'f>(
         &mut self,
         frame: &'f DecodedFrame,
@@ -42,14 +38,6 @@ impl FrameSink for Folding<'_> {
             Ok(()) => self.picked.go_on(),
             Err(error) => Err(uncounted(error)),
         }
-    }
-
-    fn settle(&mut self) -> Result<(), Ending> {
-        Ok(())
-    }
-
-    fn end(&mut self, _: Ending, _: usize) -> Result<(), Ending> {
-        Ok(())
     }
 }
 
@@ -88,7 +76,7 @@ fn add_all<'c>(
 ) -> Result<u8, AllocError> {
     let mut status = WHOLE;
     for name in call.asked.files.as_slice() {
-        folding.picked = Picked::of(call, zero_of(rt, call, name));
+        folding.picked = Picked::of(call, zero_of(rt, call, name)?);
         let ending = read_named(rt, call, name, folding);
         status = status.max(tell(rt, name, ending)?);
     }

@@ -40,10 +40,6 @@ impl Gathered<'_> {
 }
 
 impl FrameSink for Gathered<'_> {
-    fn begin(&mut self, _: u8) -> Result<(), Ending> {
-        Ok(())
-    }
-
     fn frame<'f>(
         &mut self,
         frame: &'f DecodedFrame,
@@ -58,14 +54,6 @@ impl FrameSink for Gathered<'_> {
         };
         self.data.add(&event, bytes)?;
         self.picked.go_on()
-    }
-
-    fn settle(&mut self) -> Result<(), Ending> {
-        Ok(())
-    }
-
-    fn end(&mut self, _: Ending, _: usize) -> Result<(), Ending> {
-        Ok(())
     }
 }
 
@@ -113,7 +101,9 @@ fn gather<'n>(
     name: &str,
     gathered: &mut Gathered<'n>,
 ) -> Ending {
-    let zero = zero_of(rt, call, name);
+    let Ok(zero) = zero_of(rt, call, name) else {
+        return Ending::OutOfMemory;
+    };
     gathered.zero = zero;
     gathered.picked = Picked::of(call, zero);
     read_named(rt, call, name, gathered)

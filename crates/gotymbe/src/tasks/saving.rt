@@ -73,7 +73,10 @@ pub(crate) fn cut_one<W: TraceWrite + Drop>(
         Ok(bytes) => bytes,
         Err(ending) => return ending,
     };
-    let Some(filter) = call.wanted().filter(zero_in(rt.alloc(), call, &bytes)) else {
+    let Ok(zero) = zero_in(rt.alloc(), call, &bytes) else {
+        return Ending::OutOfMemory;
+    };
+    let Some(filter) = call.wanted().filter(zero) else {
         return Ending::NoClock;
     };
     let (from, to) = filter.bounds();

@@ -67,7 +67,7 @@ fn count_all<'n>(
 ) -> Result<u8, AllocError> {
     let mut status = WHOLE;
     for name in call.asked.files.as_slice() {
-        tally.picked = Picked::of(call, zero_of(rt, call, name));
+        tally.picked = Picked::of(call, zero_of(rt, call, name)?);
         let ending = read_named(rt, call, name, tally);
         status = status.max(tell(rt, name, ending)?);
     }
@@ -84,8 +84,11 @@ pub(crate) fn show_one<W: TraceWrite + Drop>(
     let Some(form) = call.asked.form() else {
         return dump_frames(rt, call, name, out);
     };
+    let Ok(zero) = zero_of(rt, call, name) else {
+        return Ending::OutOfMemory;
+    };
     let mut lines = EventLines {
-        picked: Picked::of(call, zero_of(rt, call, name)),
+        picked: Picked::of(call, zero),
         lines: Lines::new(rt.alloc(), form),
         out,
     };

@@ -24,11 +24,11 @@ pub(crate) fn write_tables(
         Ok(made) => made,
         Err(ending) => return tell(rt, folder, ending),
     };
-    let status = fill_folder(rt, call, folder)?;
-    if made && !is_kept(status) {
+    let filled = fill_folder(rt, call, folder);
+    if made && !matches!(filled, Ok(status) if is_kept(status)) {
         let _ = fs::remove_dir(rt, folder);
     }
-    Ok(status)
+    filled
 }
 
 // Writes the tables into a folder that is there.
@@ -38,11 +38,15 @@ fn fill_folder(
     folder: &str,
 ) -> Result<u8, AllocError> {
     let mut tables = Tables::new(rt, folder, call.asked.force, Picked::of(call, None));
-    match fill_all(rt, call, &mut tables)? {
-        Ok(status) => Ok(status),
-        Err(ending) => {
+    match fill_all(rt, call, &mut tables) {
+        Ok(Ok(status)) => Ok(status),
+        Ok(Err(ending)) => {
             tables.give_up();
             tell_failed(rt, folder, &tables, ending)
+        }
+        Err(refused) => {
+            tables.give_up();
+            Err(refused)
         }
     }
 }
@@ -56,7 +60,7 @@ fn fill_all<'c, R: AllocGlobal + Files<File = File> + Input + Eprint + Clock>(
 ) -> Result<Result<u8, Ending>, AllocError> {
     let mut status = WHOLE;
     for name in call.asked.files.as_slice() {
-        tables.picked = Picked::of(call, zero_of(rt, call, name));
+        tables.picked = Picked::of(call, zero_of(rt, call, name)?);
         let ending = read_named(rt, call, name, tables);
         if let Ending::Unwritten(_) = ending {
             return Ok(Err(ending));

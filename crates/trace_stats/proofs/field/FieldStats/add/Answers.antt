@@ -1,5 +1,6 @@
-use Rattle.trace_stats.proofs.FieldLemmas.{natural_added, negative_added, length_added, by_measure}
-use Rattle.trace_stats.proofs.FieldLemmas.{naturals_full, negatives_full, lengths_full}
+use Rattle.trace_stats.proofs.FieldLemmas.{natural_added, negative_added, float_added, length_added}
+use Rattle.trace_stats.proofs.FieldLemmas.{by_measure}
+use Rattle.trace_stats.proofs.FieldLemmas.{naturals_full, negatives_full, floats_full, lengths_full}
 use Rattle.trace_stats.proofs.field.FieldStats.add.Goals as goal
 
 pub returns-in-Natural-clause-added : goal.returns-in-Natural-clause-added
@@ -13,6 +14,12 @@ returns-in-Negative-clause-added c =
     (negative_added c.add-in-Negative.result c.in-Negative.number c.args.self.now c.add-in-Negative.new.self
     c.add-in-Negative.ensures.added)
 
+pub returns-in-Float-clause-added : goal.returns-in-Float-clause-added
+returns-in-Float-clause-added c =
+    by_measure c.add-in-Float.result _ _ c.args.self.now _ c.in-Float.is
+    (float_added c.add-in-Float.result c.in-Float.bits c.args.self.now c.add-in-Float.new.self
+    c.add-in-Float.ensures.added)
+
 pub returns-in-Length-clause-added : goal.returns-in-Length-clause-added
 returns-in-Length-clause-added c =
     by_measure c.add-in-Length.result _ _ c.args.self.now _ c.in-Length.is
@@ -25,6 +32,9 @@ returns-in-Natural-clause-full c = naturals_full c.add.result c.args.self.now c.
 pub returns-in-Negative-clause-full : goal.returns-in-Negative-clause-full
 returns-in-Negative-clause-full c =
     negatives_full c.add-in-Negative.result c.args.self.now c.add-in-Negative.ensures.full
+
+pub returns-in-Float-clause-full : goal.returns-in-Float-clause-full
+returns-in-Float-clause-full c = floats_full c.add-in-Float.result c.args.self.now c.add-in-Float.ensures.full
 
 pub returns-in-Length-clause-full : goal.returns-in-Length-clause-full
 returns-in-Length-clause-full c =
