@@ -102,13 +102,14 @@ fn is_kept(rt: &impl Abort, alloc: Global, count: usize) -> bool {
     count_kept(rt, alloc, count) == count.saturating_mul(5).saturating_add(20)
 }
 
-/// How many bytes are written of that event by a rule of this slot whose new schema has this name.
+/// How many bytes are written of that event by a rule of this slot whose new schema and its field have this name.
 fn count_named(rt: &impl Abort, alloc: Global, slot: u16, name: &str) -> usize {
+    let fields = [("f", name)];
     let rules = [Rule {
         from: "K",
         to: name,
         slot,
-        fields: &[("f", "g")],
+        fields: &fields,
     }];
     let (found, _) = converted(rt, alloc, &NUMBER, &rules);
     found.len()
@@ -117,7 +118,7 @@ fn count_named(rt: &impl Abort, alloc: Global, slot: u16, name: &str) -> usize {
 /// They are as many as docs/FORMAT.md says.
 fn is_named(rt: &impl Abort, alloc: Global, slot: u16, size: usize) -> bool {
     let name = "x".repeat(alloc, size).expect(rt, "memory");
-    count_named(rt, alloc, slot, name.as_str()) == size.saturating_add(24)
+    count_named(rt, alloc, slot, name.as_str()) == size.saturating_mul(2).saturating_add(23)
 }
 
 #[test]
