@@ -7,8 +7,8 @@ import ctypes
 import unittest
 
 import gotymbe
-from gotymbe import (BYTES, POOLED_STACK, POOLED_STRING, SHORT_ROOM, STACK, STRING, U16, VARINT, Batch, Schema,
-                     TraceError, check, dump, read_batch, record_batch)
+from gotymbe import (BOOL, BYTES, F64, I64, LIST, MAP, OPTIONAL, POOLED_STACK, POOLED_STRING, SHORT_ROOM, STACK, STRING,
+                     STRING_MAP, U8, U16, U32, VARINT, Batch, Schema, TraceError, check, dump, read_batch, record_batch)
 
 COUNTS = (1, 10, 100, 1000, 10000, 100000)
 SIZES = (1, 255, 256, 4097, 65536, 1000000, 1048576)
@@ -171,6 +171,19 @@ class Ample(unittest.TestCase):
             stack = tuple(2**64 - 1 - n for n in range(size))
             for kind in (STACK, POOLED_STACK):
                 self.is_done(*one(kind, stack, addresses(stack)), 1)
+
+    def test_each_type_after_its_tag(self):
+        """What is read of a field stands after the tag of its type, also where another type has the same value. No
+        clause says so."""
+        small = {I64: 8, F64: 8, BOOL: 1, POOLED_STACK: 4, POOLED_STRING: 4, VARINT: 1, U8: 1, U16: 2, U32: 4}
+        spelled = {kind: number(1, width) for kind, width in small.items()}
+        spelled |= {kind: number(0, 4) for kind in (STRING, BYTES, STACK, STRING_MAP, LIST, MAP)}
+        self.assertEqual(len(spelled), 15)
+        for kind, raw in spelled.items():
+            for of, value in ((kind, raw), (OPTIONAL | kind, b"\1" + raw), (OPTIONAL | kind, b"\0")):
+                wanted = Wanted()
+                wanted.event(wanted.schema("One", [("it", of)]), 7, [(of, value)])
+                self.is_done(wanted.batch(), wanted, 1)
 
     def test_names_and_fields_of_each_size(self):
         for size in (0, 1, 255, 256, 4097, 65535):

@@ -214,6 +214,28 @@ class Sizes(unittest.TestCase):
                 found = it.exception
                 self.assertEqual((found.code, found.place, found.detail), (code, 2, detail))
 
+    def test_refused_after_each_value(self):
+        """After an event of a value of each type and size, and after as many as 100,000 events, one of too few values:
+        what stands before it is read by the calls that it asks for."""
+        for size in (*COUNTS, 4096, 65536, 10**5):
+            text, count = b"x" * size, number(size, 4)
+            for kind, raw in ((STRING, text), (BYTES, text), (STACK, bytes(8 * size)), (STRING_MAP, bytes(8 * size)),
+                              (LIST, b"\3\1" * size), (MAP, b"\3\1\3\0" * size)):
+                for of, before in ((kind, b""), (kind | OPTIONAL, b"\1")):
+                    wanted = Wanted()
+                    wire_id = wanted.schema("One", [("it", of)])
+                    wanted.event(wire_id, 7, [(of, before + count + raw)])
+                    self.is_refused(wanted.records, wire_id)
+        whole = numbered(10**5)
+        for count in (1024, 4096, 65536, 10**5):
+            self.is_refused(whole.records[:1 + count], 256)
+
+    def is_refused(self, records, wire_id):
+        """A record of an event without a value is refused after these."""
+        with self.assertRaises(TraceError) as it:
+            record_batch(b"".join(records) + b"\2" + number(wire_id, 2) + number(9, 8) + number(0, 2))
+        self.assertEqual((it.exception.code, it.exception.place), (33, len(records)))
+
     def test_refused_after_each_count(self):
         """After so many events, and after as many schemas, texts and stacks, a record that is none, one of no schema,
         one of another schema of a name, and one of too few values: its index is told."""

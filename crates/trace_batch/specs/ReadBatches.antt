@@ -108,6 +108,11 @@ pub record ReadsBatch (state trace : List ℕ) (most : ℕ) (r : ReadBatch) : Ty
   pub starts : StartsAt state trace version known start place
   pub reads : ReadsFrom (drop place trace) (length trace) most version known start r
 
+-- the bytes begin with a header, and the frames after it lead to a schema that no record can tell
+abbrev pub StateReachesTooLong : List ℕ → Type 0
+StateReachesTooLong state =
+    ((version : ℕ) × StartsWith state version) × ReachesTooLong empty (drop header_length state)
+
 -- the bytes are no state
 abbrev pub IsNoState : List ℕ → Type 0
 IsNoState state = (version : ℕ) (frames : List Frame) (last : Grammar) → IsState state version frames last → ⊥
@@ -120,5 +125,5 @@ RefusesToRead state trace errors.NoState = IsHeadless trace × (state ≢ []) ×
 RefusesToRead state trace errors.TooLong =
     ((version : ℕ) × (known : List Frame) × (start : Grammar) × (place : ℕ)
     × StartsAt state trace version known start place × ReachesTooLong start (drop place trace))
-    ⊎ (IsHeadless trace × ReachesTooLong empty (drop header_length state))
+    ⊎ (IsHeadless trace × StateReachesTooLong state)
 RefusesToRead state trace errors.OutOfMemory = Unit {0}

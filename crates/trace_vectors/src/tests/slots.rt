@@ -369,6 +369,37 @@ fn fields_under_a_slot(rt: HostRuntime) {
     assert!(rt; has_fields(&rt, rt.alloc(), 65_535));
 }
 
+/// `S` with so many annotations without a key and a value.
+fn annotated_often(rt: &impl Abort, alloc: Global, count: usize) -> Schema {
+    let field = FieldDef::new(alloc, "v", FieldType::U8).expect(rt, "memory");
+    let mut notes = Vec::new(alloc);
+    for _ in 0..count {
+        let note = FieldAnnotation::new(alloc, 0, "", "").expect(rt, "memory");
+        notes.push(note).expect(rt, "memory");
+    }
+    Schema::from_entry(
+        alloc,
+        SchemaEntry::with_annotations(alloc, "S", &[field], &notes).expect(rt, "memory"),
+    )
+    .expect(rt, "memory")
+}
+
+/// The annotations are a frame more: its tag, its wire id, a count, and eight bytes for each.
+fn has_annotations(rt: &impl Abort, alloc: Global, count: usize) -> bool {
+    let schema = annotated_often(rt, alloc, count);
+    let bytes = event_of(rt, alloc, 255, &schema, &[FieldValue::Varint(7)]);
+    let length = (count as u64).saturating_mul(8).saturating_add(30);
+    bytes.len() as u64 == length && reads_all(rt, alloc, &bytes, 3, bytes.len())
+}
+
+#[test]
+fn annotations_of_each_count_under_a_slot(rt: HostRuntime) {
+    for count in COUNTS {
+        assert!(rt; count == 0 || has_annotations(&rt, rt.alloc(), count));
+    }
+    assert!(rt; has_annotations(&rt, rt.alloc(), 65_535));
+}
+
 /// Both calls under a slot, as data.
 fn calls(rt: &impl Abort, alloc: Global, slot: u16) -> Vec<Call> {
     let schema = schema(rt, alloc);

@@ -102,6 +102,35 @@ fn is_kept(rt: &impl Abort, alloc: Global, count: usize) -> bool {
     count_kept(rt, alloc, count) == count.saturating_mul(5).saturating_add(20)
 }
 
+/// How many bytes are written of that event by a rule of this slot whose new schema and its field have this name.
+fn count_named(rt: &impl Abort, alloc: Global, slot: u16, name: &str) -> usize {
+    let fields = [("f", name)];
+    let rules = [Rule {
+        from: "K",
+        to: name,
+        slot,
+        fields: &fields,
+    }];
+    let (found, _) = converted(rt, alloc, &NUMBER, &rules);
+    found.len()
+}
+
+/// They are as many as docs/FORMAT.md says.
+fn is_named(rt: &impl Abort, alloc: Global, slot: u16, size: usize) -> bool {
+    let name = "x".repeat(alloc, size).expect(rt, "memory");
+    count_named(rt, alloc, slot, name.as_str()) == size.saturating_mul(2).saturating_add(23)
+}
+
+#[test]
+fn rules_of_each_slot_and_name(rt: HostRuntime) {
+    for slot in 0..=256u16 {
+        assert!(rt; is_named(&rt, rt.alloc(), slot, usize::from(slot)));
+    }
+    for size in [4_096, 4_097, 65_535] {
+        assert!(rt; is_named(&rt, rt.alloc(), 0, size));
+    }
+}
+
 #[test]
 fn rules_of_each_count_of_fields(rt: HostRuntime) {
     for count in 0..301 {
