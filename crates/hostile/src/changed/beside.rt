@@ -164,7 +164,7 @@ fn are_refused<'a>(
     ensures { IfOk result (λ all. IsTrue all → 0 < events
         → decoder.new.position ≡ sink.new.reader.position) }
 {
-    for _event in 0..events {
+    'events: for _ in 0..events {
         let answer = answer_of(show(decoder, sink))?;
         if !is_refused(answer, place_of(decoder), sink) {
             return Ok(false);
