@@ -9,7 +9,6 @@ use Rattle.dial9_trace_format.specs.declared.decoder.error.DecodeErrorKind.TheVa
 use Rattle.dial9_trace_format.specs.declared.decoder.decoded_frame_ref.DecodedFrameRef.{DecodedFrameRef}
 use Rattle.dial9_trace_format.specs.Decoding.{DecoderState}
 use Rattle.dial9_trace_format.specs.Iterating.{GivesNext}
-use Rattle.reader_agreement.specs.declared.ends.Ended.{Ended}
 use Rattle.hostile.specs.declared.changed.tally.End.{End}
 use Rattle.hostile.specs.declared.changed.tally.End.TheVariants as ends
 use Rattle.hostile.specs.declared.refused.before.Stood.{Stood}

@@ -6,7 +6,7 @@ use Rattle.trace_values.specs.Values.{owned_reader}
 use Rattle.trace_wire.specs.Registries.{entries_of}
 use Rattle.trace_wire.specs.Runs.{Item}
 use Rattle.trace_wire.specs.Schemas.{WireType}
-use Rattle.dial9_trace_format.specs.Decoding.{DecoderState, DecodesAll, IsHeadless}
+use Rattle.dial9_trace_format.specs.Decoding.{DecoderState, DecodesAll}
 use Rattle.dial9_trace_format.specs.WrittenTraces.{IsOpened}
 
 -- a decoder gives so many frames up to this place, and has these schemas then

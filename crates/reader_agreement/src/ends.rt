@@ -1,6 +1,6 @@
 //! How readers end.
 
-ghost use Rattle.std.specs.Prelude.{◌≡◌, ◌↔◌, IsTrue, Err, option_copied};
+ghost use Rattle.std.specs.Prelude.{◌≡◌, ◌↔◌, IsTrue, Err};
 
 use dial9_trace_format::decoder::DecodeError;
 

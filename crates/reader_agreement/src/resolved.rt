@@ -3,7 +3,7 @@
 ghost use Rattle.std.specs.Prelude.{◌≡◌, ◌≢◌, ◌↔◌, [], ◌∷◌, ℕ, List, false, IsTrue, Some, Ok, Err, codes};
 ghost use Rattle.std.specs.Prelude.{alloc_error, slice_get, string_bytes, IsOkAnd};
 ghost use Rattle.std.specs.FinMap as finmap;
-ghost use Rattle.trace_values.specs.Equal.{same_value, same_items, same_pairs};
+ghost use Rattle.trace_values.specs.Equal.{same_value};
 ghost use Rattle.trace_values.specs.Raw.{texts_front};
 ghost use Rattle.trace_values.specs.RawViews.{string_map_view, texts_left};
 ghost use Rattle.trace_values.specs.Reading.{values_to_items, values_to_pairs};
