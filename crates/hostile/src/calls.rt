@@ -70,7 +70,7 @@ pub fn all_borrowed<'a>(
 
 /// `Decoder::next`.
 pub fn step<'a>(decoder: &mut Decoder<'a>) -> Option<Result<DecodedFrameRef<'a>, DecodeError>>
-    ensures { GivesNext decoder.old result.entry decoder.new }
+    ensures { GivesNext decoder.old result decoder.new }
 {
     decoder.next()
 }
