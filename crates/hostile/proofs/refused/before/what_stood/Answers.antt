@@ -7,5 +7,5 @@ pub returns-in-Some-clause-stood : goal.returns-in-Some-clause-stood
 returns-in-Some-clause-stood c =
     let front-is : c.in_ok-front.front.now ≡ take c.args.place c.args.reference.now.bytes.now = search rules in
     subst (λ front. IfSome c.what_reads.result (λ stood. StandsBefore front c.args.tables.schemas.now.wire_types
-        stood.frames)) front-is
-        (read_stands _ _ _ _ _ c.in-Some.ensures.found c.what_reads.ensures)
+    stood.frames)) front-is
+    (read_stands _ _ _ _ _ c.in-Some.ensures.found c.what_reads.ensures)
