@@ -1,5 +1,5 @@
 -- What stands before a place, by a new decoder of the front up to it.
-use Rattle.std.proofs.Common.{◌≡◌, ap, inl, length, IfSome, List, ℕ, Option, Some, None}
+use Rattle.std.proofs.Common.{◌≡◌, ◌∙◌, ◌-◌, ap, arith, inl, length, take, IfSome, List, ℕ, Option, Some, None}
 use Rattle.std.specs.FinMap as map
 use Rattle.std.specs.Ordering.{nat_cmp}
 use Rattle.trace_wire.specs.Schemas.{WireType}
@@ -20,3 +20,9 @@ read_stands front types old new (Some stood) opened reads = inl (record {
   opened = opened;
   reads = reads (ap (λ d. d.failure) opened.1);
 })
+
+-- a front from the first byte on
+pub front_from_0 : (front bytes : List ℕ) (place : ℕ) → front ≡ take (place - 0) bytes → front ≡ take place bytes
+front_from_0 front bytes place e =
+    let same : place - 0 ≡ place = omega arith in
+    e ∙ ap (λ n. take n bytes) same
