@@ -1,1 +1,4 @@
+pub mod Answers
+pub mod Showings
+pub mod Standing
 pub mod Verdicts

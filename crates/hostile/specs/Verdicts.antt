@@ -1,5 +1,5 @@
 -- What is to be thought of a call of which a growth was refused.
-use Rattle.std.specs.Prelude.{◌≡◌, ◌≢◌, ℕ, ◌<◌, ◌+◌, ◌-◌, ◌^◌, min, Bool, true, false, if◌then◌else◌}
+use Rattle.std.specs.Prelude.{◌≡◌, ℕ, ◌<◌, ◌+◌, ◌-◌, ◌^◌, min, Bool, true, false}
 use Rattle.hostile.specs.declared.refused.verdict.Seen.{Seen}
 use Rattle.hostile.specs.declared.refused.verdict.Verdict.{Verdict}
 use Rattle.hostile.specs.declared.refused.verdict.Verdict.TheVariants.{Untouched, Told, Absorbed, Wrong}

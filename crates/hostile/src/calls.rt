@@ -1,4 +1,10 @@
-//! Calls of decoders that promise nothing, so that proofs of what makes many of them stay small.
+//! Calls of decoders that promise little, so that proofs of what makes many of them stay small.
+
+ghost use Rattle.std.specs.Prelude.{◌≡◌, None};
+ghost use Rattle.trace_values.specs.Values.{owned_reader};
+ghost use Rattle.dial9_trace_format.specs.DecodedFrames.{all_as, item_of};
+ghost use Rattle.dial9_trace_format.specs.Decoding.{AllItems};
+ghost use Rattle.dial9_trace_format.specs.Iterating.{GivesNext};
 
 use dial9_trace_format::decoder::{
     DecodeError, DecodedFrame, DecodedFrameRef, Decoder, EventHead, EventSink, EventVisitor,
@@ -13,7 +19,9 @@ pub fn decoder_of(alloc: Global, bytes: &[u8]) -> Result<Decoder<'_>, AllocError
 }
 
 /// `Decoder::position`.
-pub fn place_of(decoder: &Decoder<'_>) -> usize {
+pub fn place_of(decoder: &Decoder<'_>) -> usize
+    ensures { result ≡ decoder.now.position }
+{
     decoder.position()
 }
 
@@ -46,7 +54,10 @@ pub fn next_ref_into<'a>(
 }
 
 /// `Decoder::decode_all`.
-pub fn all_owned(decoder: &mut Decoder<'_>) -> Result<Vec<DecodedFrame>, DecodeError> {
+pub fn all_owned(decoder: &mut Decoder<'_>) -> Result<Vec<DecodedFrame>, DecodeError>
+    ensures { decoder.old.failure ≡ None →
+        AllItems owned_reader decoder.old decoder.new (all_as item_of result) }
+{
     decoder.decode_all()
 }
 
@@ -58,7 +69,9 @@ pub fn all_borrowed<'a>(
 }
 
 /// `Decoder::next`.
-pub fn step<'a>(decoder: &mut Decoder<'a>) -> Option<Result<DecodedFrameRef<'a>, DecodeError>> {
+pub fn step<'a>(decoder: &mut Decoder<'a>) -> Option<Result<DecodedFrameRef<'a>, DecodeError>>
+    ensures { GivesNext decoder.old result decoder.new }
+{
     decoder.next()
 }
 

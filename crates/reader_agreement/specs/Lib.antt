@@ -4,5 +4,7 @@ pub mod Describing
 pub mod Headless
 pub mod ReadAlike
 pub mod Readings
+pub mod ResolvedAgain
 pub mod Signs
+pub mod Steps
 pub mod parts

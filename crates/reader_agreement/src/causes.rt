@@ -1,10 +1,11 @@
 //! What a reader that shows events to a sink tells, beside where a reader of frames stops.
 
-ghost use Rattle.std.specs.Prelude.{◌≡◌, ◌↔◌, IsTrue};
+ghost use Rattle.std.specs.Prelude.{◌≡◌, ◌↔◌, IsTrue, Err};
+ghost use Rattle.dial9_trace_format.specs.declared.decoder.error.TryForEachError.TheVariants.{Decode};
 ghost use Rattle.reader_agreement.specs.Causes.{may_be_cause, MayBeCause, IsToldFor};
 
 use crate::ends::{Ended, is_same_error};
-use dial9_trace_format::decoder::{DecodeError, DecodeErrorKind};
+use dial9_trace_format::decoder::{DecodeError, DecodeErrorKind, TryForEachError};
 
 /// The byte that an event begins with.
 const EVENT: u8 = 2;
@@ -55,5 +56,15 @@ fn may_be_cause(tag: u8, len: usize, ahead: usize, kind: DecodeErrorKind) -> boo
             tag == first && ahead == 0 && !(tag == EVENT || tag == RESET)
         }
         _ => false,
+    }
+}
+
+/// Whether an answer to a sink is this error of its reader.
+pub fn is_told_to_sink<E: Drop>(answer: Result<(), TryForEachError<E>>, error: &DecodeError) -> bool
+    ensures { IsTrue result ↔ (answer ≡ Err (Decode error.now)) }
+{
+    match answer {
+        Err(TryForEachError::Decode(told)) => is_same_error(&told, error),
+        Ok(()) | Err(TryForEachError::User(_)) => false,
     }
 }

@@ -1,6 +1,6 @@
 //! How readers end.
 
-ghost use Rattle.std.specs.Prelude.{◌≡◌, ◌↔◌, IsTrue, option_copied};
+ghost use Rattle.std.specs.Prelude.{◌≡◌, ◌↔◌, IsTrue, Err};
 
 use dial9_trace_format::decoder::DecodeError;
 
@@ -37,5 +37,15 @@ pub fn is_same_end(a: &Option<DecodeError>, b: &Option<DecodeError>) -> bool
         (Some(a), Some(b)) => is_same_error(a, b),
         (None, None) => true,
         _ => false,
+    }
+}
+
+/// Whether an answer is this error.
+pub fn is_told<T: Drop>(answer: Result<T, DecodeError>, error: &DecodeError) -> bool
+    ensures { IsTrue result ↔ (answer ≡ Err error.now) }
+{
+    match answer {
+        Err(told) => is_same_error(&told, error),
+        Ok(_) => false,
     }
 }

@@ -2,7 +2,7 @@
 
 ghost use Rattle.std.specs.Prelude.{◌≡◌, ◌↔◌, IsTrue, IfOk, map};
 ghost use Rattle.std.specs.Cmp.Lexicographic.{pointwise};
-ghost use Rattle.dial9_trace_format.specs.DecodedFrames.{item_of, same_item};
+ghost use Rattle.dial9_trace_format.specs.DecodedFrames.{item_of, ref_item_of, same_item};
 ghost use Rattle.reader_agreement.specs.AllReaders.{IsWhole, GiveAll, FedAlike, IsShownAll, ReadsAlike};
 ghost use Rattle.reader_agreement.specs.Headless.{GivesNothing, GaveNone};
 
@@ -10,7 +10,7 @@ use crate::causes::is_told_for;
 use crate::ends::{Ended, is_same_end};
 use crate::frames::{Borrowed, Owned, agree};
 use crate::runs::Run;
-use dial9_trace_format::decoder::{DecodeError, DecodeErrorKind, DecodedFrame};
+use dial9_trace_format::decoder::{DecodeError, DecodeErrorKind, DecodedFrame, DecodedFrameRef};
 use std::alloc::{AllocError, Global};
 
 /// What a reader gave, and how it stood then.
@@ -94,6 +94,24 @@ pub fn are_same_frames(a: &[DecodedFrame], b: &[DecodedFrame]) -> bool
     ensures { result ≡ pointwise same_item (map item_of a.now) (map item_of b.now) }
 {
     a == b
+}
+
+/// The same of frames that stay in the bytes.
+pub fn are_same_refs<'v, 'b>(
+    refs: &'v [DecodedFrameRef<'b>],
+    others: &'v [DecodedFrameRef<'b>],
+) -> bool
+    ensures { result ≡ pointwise same_item (map ref_item_of refs.now) (map ref_item_of others.now) }
+{
+    if refs.len() != others.len() {
+        return false;
+    }
+    for i in 0..refs.len() {
+        if refs[i] != others[i] {
+            return false;
+        }
+    }
+    true
 }
 
 /// What a decoder did that was fed two pieces without a header in front.

@@ -1,8 +1,9 @@
 //! What an event resolves to, beside what its pools hold under the ids of its values, looked up by hand.
 
-ghost use Rattle.std.specs.Prelude.{◌≡◌, ◌↔◌, [], ◌∷◌, ℕ, List, IsTrue, Some, codes, slice_get, string_bytes};
+ghost use Rattle.std.specs.Prelude.{◌≡◌, ◌≢◌, ◌↔◌, [], ◌∷◌, ℕ, List, false, IsTrue, Some, Ok, Err, codes};
+ghost use Rattle.std.specs.Prelude.{alloc_error, slice_get, string_bytes, IsOkAnd};
 ghost use Rattle.std.specs.FinMap as finmap;
-ghost use Rattle.trace_values.specs.Equal.{same_value, same_items, same_pairs};
+ghost use Rattle.trace_values.specs.Equal.{same_value};
 ghost use Rattle.trace_values.specs.Raw.{texts_front};
 ghost use Rattle.trace_values.specs.RawViews.{string_map_view, texts_left};
 ghost use Rattle.trace_values.specs.Reading.{values_to_items, values_to_pairs};
@@ -21,12 +22,14 @@ ghost use Rattle.dial9_trace_format.specs.Resolving.{unknown};
 ghost use Rattle.dial9_trace_format.specs.ShownEvents.{shown_event};
 ghost use Rattle.dial9_trace_format.specs.declared.resolve.error.DeserError.TheVariants as errors;
 ghost use Rattle.dial9_trace_format.specs.parts.Resolving.{as_pools};
+ghost use Rattle.reader_agreement.specs.ResolvedAgain.{IsSameAnswer};
 ghost use Rattle.reader_agreement.specs.parts.Lookups.{is_flat};
 
 use crate::values::is_stack;
 use dial9_trace_format::DeserError;
 use dial9_trace_format::decoder::{RawEvent, StackPool, StringPool};
 use dial9_trace_format::resolve::{ResolvedEvent, ResolvedValue};
+use std::alloc::AllocError;
 use trace_values::types::{
     FieldValueRef, InternedStackFrames, InternedString, StringMapIter, StringMapRef, items_of,
     pairs_of,
@@ -409,5 +412,39 @@ fn is_next_pair(others: &mut StringMapIter<'_>, pair: &(String, String)) -> bool
     match others.next() {
         Some((key, value)) => key == pair.0.as_str() && value == pair.1.as_str(),
         None => false,
+    }
+}
+
+/// Whether an answer is the one that is wanted, which is no want of memory: when it was given, nothing was refused.
+/// `AllocError` where the answer tells want of memory.
+pub fn is_answer(
+    answer: &Result<Option<ResolvedEvent>, DeserError>,
+    wanted: &Result<Option<ResolvedEvent>, DeserError>,
+) -> Result<bool, AllocError>
+    ensures unknown { wanted.now ≡ Err errors.OutOfMemory → result ≡ Ok false }
+    ensures memory { wanted.now ≢ Err errors.OutOfMemory → answer.now ≡ Err errors.OutOfMemory
+        → result ≡ Err alloc_error }
+    ensures same { wanted.now ≢ Err errors.OutOfMemory → answer.now ≢ Err errors.OutOfMemory
+        → IsOkAnd result (λ same. IsTrue same ↔ IsSameAnswer answer.now wanted.now) }
+{
+    match (answer, wanted) {
+        (_, Err(DeserError::OutOfMemory)) => Ok(false),
+        (Err(DeserError::OutOfMemory), _) => Err(AllocError),
+        _ => Ok(is_same_answer(answer, wanted)),
+    }
+}
+
+/// Whether both are events of the same entries, no events, or the same error.
+fn is_same_answer(
+    answer: &Result<Option<ResolvedEvent>, DeserError>,
+    wanted: &Result<Option<ResolvedEvent>, DeserError>,
+) -> bool
+    ensures { IsTrue result ↔ IsSameAnswer answer.now wanted.now }
+{
+    match (answer, wanted) {
+        (Ok(Some(answer)), Ok(Some(wanted))) => *answer == *wanted,
+        (Ok(None), Ok(None)) => true,
+        (Err(answer), Err(wanted)) => *answer == *wanted,
+        _ => false,
     }
 }

@@ -1,9 +1,9 @@
 //! What a reader gives up to its end, beside what it should give.
 
-ghost use Rattle.std.specs.Prelude.{◌≡◌, ◌≢◌, ◌↔◌, ◌+◌, ◌-◌, ◌^◌, ◌&&◌, min, true, Some, None};
-ghost use Rattle.std.specs.Prelude.{IsTrue, IfSome, IfNone, is_none};
+ghost use Rattle.std.specs.Prelude.{◌≡◌, ◌≢◌, ◌↔◌, true, Ok, Err, Some, None, IsTrue, IfSome, IfNone};
 ghost use Rattle.dial9_trace_format.specs.declared.decoder.error.DecodeError.{DecodeError};
 ghost use Rattle.dial9_trace_format.specs.declared.decoder.error.DecodeErrorKind.TheVariants as kinds;
+ghost use Rattle.reader_agreement.specs.Steps.{run_after};
 
 use crate::ends::is_same_end;
 use dial9_trace_format::decoder::{DecodeError, DecodeErrorKind};
@@ -33,9 +33,7 @@ impl Run {
 
     /// One more was given, which is the one that is wanted or not.
     pub fn give(&mut self, same: bool)
-        ensures given { self.new.given ≡ min (self.old.given + 1) (2 ^ 64 - 1) }
-        ensures same { self.new.same ≡ (self.old.same && (same && is_none self.old.error)) }
-        ensures error { self.new.error ≡ self.old.error }
+        ensures { self.new ≡ run_after self.old (Ok (Some same)) }
     {
         self.given = self.given.saturating_add(1);
         self.same = self.same && (same && self.error.is_none());
@@ -43,9 +41,7 @@ impl Run {
 
     /// The run met this error, and none before.
     pub fn fail(&mut self, error: DecodeError)
-        ensures given { self.new.given ≡ self.old.given }
-        ensures same { self.new.same ≡ (self.old.same && is_none self.old.error) }
-        ensures error { self.new.error ≡ Some error }
+        ensures { self.new ≡ run_after self.old (Err error) }
     {
         self.same = self.same && self.error.is_none();
         self.error = Some(error);

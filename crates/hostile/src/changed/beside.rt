@@ -1,14 +1,17 @@
 //! A sink beside a reader of borrowed values.
 
+ghost use Rattle.std.specs.Prelude.{◌≡◌, ◌≢◌, ◌↔◌, ◌<◌, IsTrue, IfOk};
+ghost use Rattle.hostile.specs.Showings.{error_told};
+ghost use Rattle.hostile.specs.declared.changed.beside.Answer.TheVariants as answers;
+
 use crate::calls::{decoder_of, next_borrowed, place_of, show};
 use crate::changed::reading::unless_memory;
 use dial9_trace_format::DeserError;
 use dial9_trace_format::decoder::{
     DecodeError, DecodedFrameRef, Decoder, EventSink, RawEvent, TryForEachError,
 };
-use reader_agreement::events::{is_described, is_shown};
+use reader_agreement::beside::is_read_by;
 use reader_agreement::readings::Showing;
-use reader_agreement::resolved::is_resolved;
 use std::alloc::{AllocError, Global};
 
 /// Compares each event that it is shown with the next one that a reader beside it gives.
@@ -50,27 +53,18 @@ impl<'a> EventSink<'a, Refusal> for Beside<'a> {
     }
 }
 
-/// Whether the event is the next one that the reader gives.
+/// Whether the event is the next one that the reader gives, and resolves as look-ups by hand show it.
 fn is_next<'a>(
     alloc: Global,
     reader: &mut Decoder<'a>,
     event: &RawEvent<'a, '_>,
 ) -> Result<bool, AllocError> {
-    if !is_shown(next_event(reader).as_ref(), event) {
-        return Ok(false);
-    }
-    let (texts, stacks) = (reader.string_pool(), reader.stack_pool());
-    let described = is_described(reader.registry(), texts, stacks, event);
-    Ok(described & resolves(alloc, event)?)
-}
-
-/// Whether the event resolves as look-ups by hand show it.
-fn resolves(alloc: Global, event: &RawEvent<'_, '_>) -> Result<bool, AllocError> {
     let answer = event.resolve(alloc);
     if matches!(answer, Err(DeserError::OutOfMemory)) {
         return Err(AllocError);
     }
-    Ok(is_resolved(event, &answer))
+    let frame = next_event(reader);
+    Ok(is_read_by(reader, frame.as_ref(), event, &answer))
 }
 
 /// The next frame that is an event.
@@ -101,7 +95,7 @@ fn next_event<'a>(reader: &mut Decoder<'a>) -> Option<DecodedFrameRef<'a>> {
 
 /// What a sink or its reader answered.
 #[derive(Clone, Copy)]
-enum Answer {
+pub enum Answer {
     /// No byte is left.
     Nothing,
     /// The sink refused an event.
@@ -136,15 +130,29 @@ fn showing_by<'a>(
     decoder: &mut Decoder<'a>,
     sink: &mut Beside<'a>,
     events: usize,
-) -> Result<Showing, AllocError> {
+) -> Result<Showing, AllocError>
+    ensures { IfOk result (λ s. (s.events ≡ sink.new.events)
+        × (s.place ≡ decoder.new.position) × (IsTrue s.right → IsTrue sink.new.right)) }
+{
     let refused = !sink.refuses || are_refused(decoder, sink, events)?;
     let answer = answer_of(show(decoder, sink))?;
-    Ok(Showing {
+    Ok(shown_by(sink, refused, answer, place_of(decoder)))
+}
+
+/// What was shown to the sink, which refused what it should, where its reader ended so and at this place.
+fn shown_by(sink: &Beside<'_>, refused: bool, answer: Answer, place: usize) -> Showing
+    ensures events { result.events ≡ sink.now.events }
+    ensures right { IsTrue result.right
+        ↔ (IsTrue refused × IsTrue sink.now.right × (answer ≢ answers.Refused)) }
+    ensures told { result.told ≡ error_told answer }
+    ensures place { result.place ≡ place }
+{
+    Showing {
         events: sink.events,
         right: refused && sink.right && !matches!(answer, Answer::Refused),
         told: error_in(answer),
-        place: place_of(decoder),
-    })
+        place,
+    }
 }
 
 /// Whether the sink refuses so many events, one in a call, each time where its reader stands.
@@ -152,18 +160,30 @@ fn are_refused<'a>(
     decoder: &mut Decoder<'a>,
     sink: &mut Beside<'a>,
     events: usize,
-) -> Result<bool, AllocError> {
-    for _ in 0..events {
+) -> Result<bool, AllocError>
+    ensures { IfOk result (λ all. IsTrue all → 0 < events
+        → decoder.new.position ≡ sink.new.reader.position) }
+{
+    'events: for _ in 0..events {
         let answer = answer_of(show(decoder, sink))?;
-        let refused = matches!(answer, Answer::Refused);
-        if !refused || place_of(decoder) != place_of(&sink.reader) {
+        if !is_refused(answer, place_of(decoder), sink) {
             return Ok(false);
         }
     }
     Ok(true)
 }
 
-fn error_in(answer: Answer) -> Option<DecodeError> {
+/// Whether the sink refused an event, and its reader stands at this place.
+fn is_refused(answer: Answer, place: usize, sink: &Beside<'_>) -> bool
+    ensures { IsTrue result
+        ↔ ((answer ≡ answers.Refused) × (place ≡ sink.now.reader.position)) }
+{
+    matches!(answer, Answer::Refused) && place == place_of(&sink.reader)
+}
+
+fn error_in(answer: Answer) -> Option<DecodeError>
+    ensures { result ≡ error_told answer }
+{
     match answer {
         Answer::Error(error) => Some(error),
         _ => None,

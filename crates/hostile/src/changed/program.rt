@@ -1,5 +1,9 @@
 //! What the program does and prints of changed traces.
 
+ghost use Rattle.std.specs.Prelude.{◌≡◌, ◌==◌, ◌&&◌, nat_eq, nat_le, length};
+ghost use Rattle.std.specs.List.{starts_with};
+ghost use Rattle.hostile.specs.Answers.{end_at, magic, IsOver};
+
 use crate::calls::{decoder_of, next_owned, place_of, step};
 use crate::changed::beside::showing_of;
 use crate::changed::fed::{fed_of, unread_of};
@@ -155,7 +159,10 @@ fn shown(alloc: Global, bytes: &[u8], place: usize) -> Result<Shown, AllocError>
     }
 }
 
-fn has_header(bytes: &[u8]) -> bool {
+/// Whether the bytes begin with a header of any version.
+fn has_header(bytes: &[u8]) -> bool
+    ensures { result ≡ (nat_le 5 (length bytes.now) && starts_with nat_eq bytes.now magic) }
+{
     bytes.len() >= 5 && bytes.starts_with(b"TRC\0")
 }
 
@@ -183,7 +190,9 @@ fn shown_of(alloc: Global, reference: &Reference<'_>, place: usize) -> Result<Sh
     })
 }
 
-fn end_of(bytes: &[u8], ended: &Ended) -> End {
+fn end_of(bytes: &[u8], ended: &Ended) -> End
+    ensures { result ≡ end_at (ended.now.place == length bytes.now) ended.now.error }
+{
     if ended.error.is_some() {
         return End::Conflict;
     }
@@ -241,7 +250,9 @@ fn reading_by<'b>(reference: &Reference<'b>, reader: Reader, decoder: &mut Decod
 }
 
 /// Whether an iterator that ended gives no more.
-fn is_over(reader: Reader, decoder: &mut Decoder<'_>) -> bool {
+fn is_over(reader: Reader, decoder: &mut Decoder<'_>) -> bool
+    ensures { IsOver reader decoder.old decoder.new result }
+{
     match reader {
         Reader::Frames | Reader::Events => step(decoder).is_none(),
         _ => true,

@@ -2,6 +2,7 @@
 
 use crate::calls::{next_borrowed, next_owned, place_of};
 use dial9_trace_format::decoder::{DecodeError, DecodeErrorKind, DecodedFrameRef, Decoder};
+use reader_agreement::any_event::is_any_event_ref;
 use reader_agreement::ends::Ended;
 use reader_agreement::frames::{Borrowed, Owned};
 use std::alloc::{AllocError, Global};
@@ -10,7 +11,7 @@ use std::alloc::{AllocError, Global};
 pub fn events_of(frames: &[DecodedFrameRef<'_>]) -> usize {
     let mut count: usize = 0;
     for frame in frames {
-        if matches!(frame, DecodedFrameRef::Event { .. }) {
+        if is_any_event_ref(frame) {
             count = count.saturating_add(1);
         }
     }

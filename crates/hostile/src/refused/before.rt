@@ -1,11 +1,17 @@
 //! What a decoder knows before a frame.
 
+ghost use Rattle.std.specs.Prelude.{◌≡◌, ◌↔◌, ◌≤◌, [], None, IsTrue, IfSome, length};
+ghost use Rattle.std.specs.FinMap as map;
+ghost use Rattle.trace_wire.specs.Registries.{entries_of};
+ghost use Rattle.hostile.specs.Standing.{ReadsTo};
+
 use crate::calls::{all_owned, place_of};
 use crate::refused::plan::{HEADER, new_encoder};
 use crate::refused::runs::Reference;
-use dial9_trace_format::decoder::{DecodeError, DecodedFrame, Decoder, StackPool, StringPool};
+use dial9_trace_format::decoder::{DecodedFrame, Decoder, StackPool, StringPool};
 use dial9_trace_format::encoder::Encoder;
 use dial9_trace_format::schema::SchemaRegistry;
+use reader_agreement::any_event::is_any_event;
 use reader_agreement::tables::{same_schemas, same_stacks, same_texts};
 use std::alloc::{AllocError, Global};
 
@@ -31,13 +37,20 @@ const NONE: Stood = Stood {
 };
 
 impl Tables<'_> {
-    fn are_empty(self) -> bool {
+    /// Whether no schema, no text and no stack is known.
+    fn are_empty(self) -> bool
+        ensures { IsTrue result ↔ ((entries_of (map.entries self.entry.schemas.now.wire_types) ≡ [])
+            × (map.len self.entry.texts.now ≡ 0) × (map.len self.entry.stacks.now ≡ 0)) }
+    {
         let schemas = self.schemas.entries().next().is_none();
         schemas & self.texts.is_empty() & self.stacks.is_empty()
     }
 
     /// Whether the pools are those that the decoder has.
-    fn has_pools_of(self, decoder: &Decoder<'_>) -> bool {
+    fn has_pools_of(self, decoder: &Decoder<'_>) -> bool
+        ensures { IsTrue result ↔ ((self.entry.texts.now ≡ decoder.now.pools.strings)
+            × (self.entry.stacks.now ≡ decoder.now.pools.stacks)) }
+    {
         let texts = same_texts(self.texts, decoder.string_pool());
         texts & same_stacks(self.stacks, decoder.stack_pool())
     }
@@ -50,7 +63,9 @@ pub fn what_stood(
     reference: &Reference<'_>,
     place: usize,
     tables: Tables<'_>,
-) -> Option<Stood> {
+) -> Option<Stood>
+    ensures { IfSome result (λ stood. place ≤ length reference.now.bytes.now) }
+{
     let front = reference.bytes.get(..place)?;
     match Decoder::new(alloc, front) {
         Some(mut decoder) => what_reads(alloc, reference, front, &mut decoder, tables),
@@ -66,34 +81,47 @@ fn what_reads(
     front: &[u8],
     decoder: &mut Decoder<'_>,
     tables: Tables<'_>,
-) -> Option<Stood> {
-    let stood = stood_in(all_owned(decoder))?;
-    let ended = place_of(decoder) == front.len();
-    let whole = ended & same_schemas(tables.schemas, decoder.registry());
-    let next = reference.owned.frames.get(stood.frames);
-    if whole && (tables.has_pools_of(decoder) || leaves_some(alloc, front, next, tables)) {
-        Some(stood)
+) -> Option<Stood>
+    ensures { decoder.old.failure ≡ None → IfSome result (λ stood. ReadsTo (length front.now)
+        tables.entry.schemas.now.wire_types decoder.old decoder.new stood.frames) }
+{
+    let Ok(frames) = all_owned(decoder) else {
+        return None;
+    };
+    let next = reference.owned.frames.get(frames.len());
+    if stands_at(decoder, front.len(), tables.schemas)
+        && (tables.has_pools_of(decoder) || leaves_some(alloc, front, next, tables))
+    {
+        Some(stood_in(&frames))
     } else {
         None
     }
 }
 
-/// How many frames were given, and events among them, if no error was.
-fn stood_in(answer: Result<Vec<DecodedFrame>, DecodeError>) -> Option<Stood> {
-    match answer {
-        Ok(frames) => Some(Stood {
-            frames: frames.len(),
-            events: events_of(&frames),
-        }),
-        Err(_) => None,
+/// Whether the decoder stands at this place, and has these schemas.
+fn stands_at(decoder: &Decoder<'_>, place: usize, schemas: &SchemaRegistry) -> bool
+    ensures { IsTrue result ↔ ((decoder.now.position ≡ place)
+        × (entries_of (map.entries schemas.now.wire_types)
+        ≡ entries_of (map.entries decoder.now.grammar.wire_types))) }
+{
+    place_of(decoder) == place && same_schemas(schemas, decoder.registry())
+}
+
+/// How many frames these are, and events among them.
+fn stood_in(frames: &[DecodedFrame]) -> Stood
+    ensures { result.frames ≡ length frames.now }
+{
+    Stood {
+        frames: frames.len(),
+        events: events_of(frames),
     }
 }
 
 /// How many of the frames are events.
-pub fn events_of(frames: &[DecodedFrame]) -> usize {
+fn events_of(frames: &[DecodedFrame]) -> usize {
     let mut count: usize = 0;
     for frame in frames {
-        if matches!(frame, DecodedFrame::Event { .. }) {
+        if is_any_event(frame) {
             count = count.saturating_add(1);
         }
     }

@@ -1,5 +1,8 @@
 //! Dumps of a trace, each growth of which is refused.
 
+ghost use Rattle.std.specs.Prelude.{◌≡◌};
+ghost use Rattle.hostile.specs.Answers.{dumped_as};
+
 use crate::refused::heap::{refuse, was_refused};
 use crate::refused::sweep::Trial;
 use crate::refused::verdict::{Answer, Seen};
@@ -105,7 +108,9 @@ impl Trial for Dumping<'_> {
 
 impl Dumping<'_> {
     /// What a status is, where these lines did not come.
-    fn answer_of(&self, status: u8, rest: &[u8]) -> Answer {
+    fn answer_of(&self, status: u8, rest: &[u8]) -> Answer
+        ensures { result ≡ dumped_as self.now.status status rest.now }
+    {
         if status == FAILED {
             Answer::Memory
         } else if status == self.status && rest.is_empty() {

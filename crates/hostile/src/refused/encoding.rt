@@ -1,5 +1,10 @@
 //! Calls of an encoder, each growth of which is refused: over an array and over a list that grows.
 
+ghost use Rattle.std.specs.Prelude.{◌≡◌, ◌↔◌, ◌≤◌, IsTrue, length, take};
+ghost use Rattle.std.specs.declared.io.ErrorKind.TheVariants as kinds;
+ghost use Rattle.trace_values.specs.declared.leb128.error.EncodeError.TheVariants as errors;
+ghost use Rattle.dial9_trace_format.specs.Words.{Refused};
+
 use crate::refused::asks::make;
 use crate::refused::heap::{refuse, was_refused};
 use crate::refused::plan::{HEADER, Plan, Planned, all_fail, fails, new_encoder, plays, replies};
@@ -59,7 +64,9 @@ fn answer_of(reply: &Reply, wanted: &Reply) -> Answer {
 }
 
 /// Whether a call was told that the list did not grow.
-fn is_full(reply: &Reply) -> bool {
+fn is_full(reply: &Reply) -> bool
+    ensures { IsTrue result ↔ (reply.now ≡ Refused (errors.Writer kinds.OutOfMemory)) }
+{
     *reply == Reply::Refused(FULL)
 }
 
@@ -94,7 +101,10 @@ fn new_encoder_by(alloc: Global, hashing: Hashing) -> Result<Encoder, AllocError
 }
 
 /// Whether the encoder has written so many bytes of these.
-pub fn is_at(encoder: &Encoder<Told>, bytes: &[u8], count: usize) -> bool {
+pub fn is_at(encoder: &Encoder<Told>, bytes: &[u8], count: usize) -> bool
+    ensures { IsTrue result ↔ ((encoder.now.state.count ≡ count) × (count ≤ length bytes.now)
+        × (encoder.now.writer.bytes ≡ take count bytes.now)) }
+{
     let counted = encoder.bytes_written() == count as u64;
     counted & (bytes.get(..count) == Some(encoder.as_inner().bytes()))
 }

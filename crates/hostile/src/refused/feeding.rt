@@ -1,15 +1,18 @@
 //! A decoder that is fed a trace in two pieces, each growth of which is refused.
 
+ghost use Rattle.std.specs.Prelude.{◌≡◌};
+ghost use Rattle.hostile.specs.Answers.{fed_gave};
+
 use crate::calls::feed;
 use crate::refused::before::{Stood, Tables, what_stood};
 use crate::refused::heap::{refuse, was_refused};
-use crate::refused::reading::is_told;
 use crate::refused::runs::{Reference, answer_of};
 use crate::refused::sweep::Trial;
 use crate::refused::verdict::Seen;
 use dial9_trace_format::decoder::{DecodeError, DecodedFrame, FeedDecoder};
-use reader_agreement::ends::is_same_error;
+use reader_agreement::ends::{is_same_end, is_told};
 use reader_agreement::runs::Run;
+use reader_agreement::steps::{is_wanted, take_owned};
 use std::alloc::Global;
 
 /// By which calls it is fed.
@@ -58,8 +61,8 @@ impl Feeding<'_, '_> {
 
     fn give_all(&self, frames: &[DecodedFrame], run: &mut Run) {
         for frame in frames {
-            let same = self.reference.owned.frames.get(run.given) == Some(frame);
-            run.give(same);
+            let wanted = self.reference.owned.frames.get(run.given);
+            run.give(is_wanted(wanted, frame));
         }
     }
 
@@ -69,7 +72,8 @@ impl Feeding<'_, '_> {
             return;
         }
         for _ in 0..=self.reference.bytes.len() {
-            if !self.reference.take_owned(next_fed(decoder), run) {
+            let frame = self.reference.owned.frames.get(run.given);
+            if !take_owned(run, frame, next_fed(decoder)) {
                 return;
             }
         }
@@ -119,7 +123,9 @@ impl Feeding<'_, '_> {
     }
 
     /// Whether as many frames were given as stood before the place where it failed, or fewer where pieces are fed.
-    fn gave(&self, given: usize, stood: Option<Stood>) -> bool {
+    fn gave(&self, given: usize, stood: Option<Stood>) -> bool
+        ensures { result ≡ fed_gave self.now.form given stood }
+    {
         match (self.form, stood) {
             (Form::Feed, Some(stood)) => given <= stood.frames,
             (Form::Push, Some(stood)) => given == stood.frames,
@@ -138,16 +144,9 @@ fn tables_of(decoder: &FeedDecoder) -> Tables<'_> {
 
 /// Whether each call answers this error, and the position stays.
 fn stays_failed(decoder: &mut FeedDecoder, error: &DecodeError) -> bool {
-    let mut told = has_fault(decoder.fault(), error);
+    let mut told = is_same_end(&decoder.fault().copied(), &Some(*error));
     told &= is_told(feed(decoder, &[7]), error);
     told &= is_told(push(decoder, &[]), error);
     told &= is_told(next_fed(decoder), error);
     told & (decoder.position() == error.pos)
-}
-
-fn has_fault(fault: Option<&DecodeError>, error: &DecodeError) -> bool {
-    match fault {
-        Some(fault) => is_same_error(fault, error),
-        None => false,
-    }
 }

@@ -1,5 +1,9 @@
 //! Lists of calls, each growth of which is refused.
 
+ghost use Rattle.std.specs.Prelude.{◌≡◌, ◌↔◌, IsTrue};
+ghost use Rattle.trace_values.specs.declared.leb128.error.EncodeError.TheVariants as errors;
+ghost use Rattle.dial9_trace_format.specs.Words.{Refused};
+
 use crate::refused::asks::make_call;
 use crate::refused::encoding::{is_at, over_array};
 use crate::refused::heap::{refuse, was_refused};
@@ -140,7 +144,9 @@ fn has_written(encoder: &Encoder<Told>, other: &Encoder<Told>) -> bool {
 }
 
 /// Whether a call was refused for want of memory.
-fn is_lack(reply: &Reply) -> bool {
+fn is_lack(reply: &Reply) -> bool
+    ensures { IsTrue result ↔ (reply.now ≡ Refused errors.OutOfMemory) }
+{
     match reply {
         Reply::Refused(error) => *error == EncodeError::OutOfMemory,
         _ => false,

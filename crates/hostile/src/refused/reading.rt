@@ -1,5 +1,8 @@
 //! Readers of a trace, each growth of which is refused.
 
+ghost use Rattle.std.specs.Prelude.{◌≡◌};
+ghost use Rattle.hostile.specs.Answers.{gave_by};
+
 use crate::calls::{
     all_borrowed, all_owned, decoder_of, next_borrowed, next_into, next_owned, next_ref_into,
     place_of, show, step, step_events, visit,
@@ -9,10 +12,11 @@ use crate::refused::heap::{refuse, was_refused};
 use crate::refused::runs::{Reader, Reference, answer_of};
 use crate::refused::sweep::{LACKING, Trial};
 use crate::refused::verdict::Seen;
-use dial9_trace_format::decoder::{DecodeError, Decoder, TryForEachError};
+use dial9_trace_format::decoder::{DecodeError, Decoder};
 use dial9_trace_format::leb128::EncodeError;
 use dial9_trace_format::types::{FieldValue, FieldValueRef};
-use reader_agreement::ends::is_same_error;
+use reader_agreement::causes::is_told_to_sink;
+use reader_agreement::ends::is_told;
 use reader_agreement::runs::Run;
 use std::alloc::Global;
 
@@ -92,7 +96,9 @@ fn tables_of<'t>(decoder: &'t Decoder<'_>) -> Tables<'t> {
 }
 
 /// Whether the reader gave as many as stood before the place where it failed.
-fn gave(reader: Reader, given: usize, stood: Option<Stood>) -> bool {
+fn gave(reader: Reader, given: usize, stood: Option<Stood>) -> bool
+    ensures { result ≡ gave_by reader given stood }
+{
     let Some(stood) = stood else {
         return false;
     };
@@ -122,26 +128,11 @@ fn makes_no_encoder(alloc: Global, decoder: Decoder<'_>) -> bool {
     }
 }
 
-/// Whether an answer is this error.
-pub fn is_told<T: Drop>(answer: Result<T, DecodeError>, error: &DecodeError) -> bool {
-    match answer {
-        Err(told) => is_same_error(&told, error),
-        Ok(_) => false,
-    }
-}
-
 /// Whether each call answers this error, and the position stays.
 fn stays_failed(decoder: &mut Decoder<'_>, error: &DecodeError) -> bool {
     let one = is_told(next_owned(decoder), error) & is_told(next_borrowed(decoder), error);
     let all = is_told(all_owned(decoder), error) & is_told(all_borrowed(decoder), error);
     one & all & (place_of(decoder) == error.pos)
-}
-
-fn is_told_to_sink(answer: Result<(), TryForEachError<()>>, error: &DecodeError) -> bool {
-    match answer {
-        Err(TryForEachError::Decode(told)) => is_same_error(&told, error),
-        _ => false,
-    }
 }
 
 /// Whether a call that puts an event into a list answers this error, and empties the list.

@@ -6,20 +6,8 @@ use crate::refused::verdict::{Counts, Verdict};
 use dial9_trace_format::DeserError;
 use dial9_trace_format::decoder::{DecodedFrame, EventSink, FeedDecoder, RawEvent};
 use dial9_trace_format::resolve::ResolvedEvent;
+use reader_agreement::resolved::is_answer;
 use std::alloc::{AllocError, Global};
-
-/// Whether an answer is the one that is wanted, which is no want of memory: when it was given, nothing was refused.
-/// `AllocError` where the answer tells want of memory.
-fn is_answer(
-    answer: &Result<Option<ResolvedEvent>, DeserError>,
-    wanted: &Result<Option<ResolvedEvent>, DeserError>,
-) -> Result<bool, AllocError> {
-    match (answer, wanted) {
-        (_, Err(DeserError::OutOfMemory)) => Ok(false),
-        (Err(DeserError::OutOfMemory), _) => Err(AllocError),
-        _ => Ok(*answer == *wanted),
-    }
-}
 
 fn resolve(alloc: Global, event: &RawEvent<'_, '_>) -> Result<Option<ResolvedEvent>, DeserError> {
     match event.resolve(alloc) {

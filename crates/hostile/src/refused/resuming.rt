@@ -7,7 +7,7 @@ use crate::refused::encoding::Hashing;
 use crate::refused::heap::{refuse, was_refused};
 use crate::refused::lists::run_all;
 use crate::refused::sweep::{LACKING, Trial};
-use crate::refused::verdict::{Answer, Seen};
+use crate::refused::verdict::{Answer, Seen, told_as};
 use dial9_trace_format::decoder::Decoder;
 use dial9_trace_format::encoder::{Call, Encoder, Reply, run_calls};
 use dial9_trace_format::leb128::{EncodeError, TraceWrite};
@@ -134,7 +134,7 @@ impl Resuming<'_> {
         let refused = was_refused(alloc);
         let (answer, right) = match told {
             Ok(mut encoder) => (Answer::Same, self.goes_on(alloc, &mut encoder)),
-            Err(error) => (answer_of(error), true),
+            Err(error) => (told_as(Err(error)), true),
         };
         Seen {
             refused,
@@ -149,12 +149,5 @@ impl Resuming<'_> {
             Ok(replies) => replies == self.replies,
             Err(_) => false,
         }
-    }
-}
-
-fn answer_of(error: EncodeError) -> Answer {
-    match error {
-        EncodeError::OutOfMemory => Answer::Memory,
-        _ => Answer::Other,
     }
 }

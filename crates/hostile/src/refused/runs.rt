@@ -1,5 +1,9 @@
 //! What each reader gives of a trace, up to its end.
 
+ghost use Rattle.std.specs.Prelude.{◌≡◌, ◌↔◌};
+ghost use Rattle.hostile.specs.Answers.{EndsByWant};
+ghost use Rattle.hostile.specs.declared.refused.verdict.Answer.TheVariants as answers;
+
 use crate::calls::{
     all_borrowed, all_owned, decoder_of, next_borrowed, next_into, next_owned, next_ref_into, show,
     step, step_events, visit,
@@ -11,9 +15,12 @@ use dial9_trace_format::decoder::{
     TryForEachError,
 };
 use dial9_trace_format::types::{FieldValue, FieldValueRef};
+use reader_agreement::any_event::is_any_event;
 use reader_agreement::events::{is_event, is_event_ref, is_shown};
 use reader_agreement::frames::{Borrowed, Owned};
+use reader_agreement::readings::{are_same_frames, are_same_refs};
 use reader_agreement::runs::Run;
+use reader_agreement::steps::{take_borrowed, take_item, take_owned};
 use std::alloc::{AllocError, Global};
 
 /// A reader of a whole trace.
@@ -95,7 +102,7 @@ fn reference_by<'b>(
 fn indexes_of_events(alloc: Global, frames: &[DecodedFrame]) -> Result<Vec<usize>, AllocError> {
     let mut indexes = Vec::new(alloc);
     for (index, frame) in frames.iter().enumerate() {
-        if matches!(frame, DecodedFrame::Event { .. }) {
+        if is_any_event(frame) {
             indexes.push(index)?;
         }
     }
@@ -103,7 +110,11 @@ fn indexes_of_events(alloc: Global, frames: &[DecodedFrame]) -> Result<Vec<usize
 }
 
 /// The answer of a run, beside that of one that met no refusal.
-pub fn answer_of(run: &Run, whole: &Run) -> Answer {
+pub fn answer_of(run: &Run, whole: &Run) -> Answer
+    ensures memory { (result ≡ answers.Memory) ↔ EndsByWant run.now.error }
+    ensures same { (result ≡ answers.Same) ↔ ((EndsByWant run.now.error → ⊥)
+        × (run.now.given ≡ whole.now.given) × (run.now.error ≡ whole.now.error)) }
+{
     if run.want_of_memory().is_some() {
         Answer::Memory
     } else if run.is_as(whole) {
@@ -170,14 +181,14 @@ impl<'b> Reference<'b> {
 
     fn run_all_owned(&self, decoder: &mut Decoder<'b>) -> Run {
         match all_owned(decoder) {
-            Ok(frames) => given(frames.len(), frames == self.owned.frames),
+            Ok(frames) => given(frames.len(), are_same_frames(&frames, &self.owned.frames)),
             Err(error) => Run::new().ended(Some(error)),
         }
     }
 
     fn run_all_borrowed(&self, decoder: &mut Decoder<'b>) -> Run {
         match all_borrowed(decoder) {
-            Ok(frames) => given(frames.len(), frames == self.borrowed.frames),
+            Ok(frames) => given(frames.len(), are_same_refs(&frames, &self.borrowed.frames)),
             Err(error) => Run::new().ended(Some(error)),
         }
     }
@@ -284,76 +295,23 @@ impl<'b> Reference<'b> {
     /// Whether there may be more.
     fn step(&self, reader: Reader, decoder: &mut Decoder<'b>, run: &mut Run) -> bool {
         match reader {
-            Reader::Owned => self.take_owned(next_owned(decoder), run),
+            Reader::Owned => {
+                let frame = self.owned.frames.get(run.given);
+                take_owned(run, frame, next_owned(decoder))
+            }
             Reader::Borrowed => {
                 let frame = self.borrowed.frames.get(run.given);
-                take_borrowed(next_borrowed(decoder), frame, run)
+                take_borrowed(run, frame, next_borrowed(decoder))
             }
             Reader::Frames => {
                 let frame = self.borrowed.frames.get(run.given);
-                take_item(step(decoder), frame, run)
+                take_item(run, frame, step(decoder))
             }
-            _ => take_item(step_events(decoder), self.borrowed_event(run.given), run),
-        }
-    }
-
-    /// Whether a frame is given, and no error.
-    pub fn take_owned(
-        &self,
-        answer: Result<Option<DecodedFrame>, DecodeError>,
-        run: &mut Run,
-    ) -> bool {
-        match answer {
-            Ok(Some(frame)) => {
-                let same = self.owned.frames.get(run.given) == Some(&frame);
-                run.give(same);
-                true
-            }
-            Ok(None) => false,
-            Err(error) => {
-                run.fail(error);
-                false
+            _ => {
+                let event = self.borrowed_event(run.given);
+                take_item(run, event, step_events(decoder))
             }
         }
-    }
-}
-
-fn take_borrowed<'v, 'b>(
-    answer: Result<Option<DecodedFrameRef<'b>>, DecodeError>,
-    wanted: Option<&'v DecodedFrameRef<'b>>,
-    run: &mut Run,
-) -> bool {
-    match answer {
-        Ok(Some(frame)) => {
-            let same = wanted == Some(&frame);
-            run.give(same);
-            true
-        }
-        Ok(None) => false,
-        Err(error) => {
-            run.fail(error);
-            false
-        }
-    }
-}
-
-/// The same of an iterator, which goes on after an error, and then is to end.
-fn take_item<'v, 'b>(
-    item: Option<Result<DecodedFrameRef<'b>, DecodeError>>,
-    wanted: Option<&'v DecodedFrameRef<'b>>,
-    run: &mut Run,
-) -> bool {
-    match item {
-        Some(Ok(frame)) => {
-            let same = wanted == Some(&frame);
-            run.give(same);
-            true
-        }
-        Some(Err(error)) => {
-            run.fail(error);
-            true
-        }
-        None => false,
     }
 }
 

@@ -1,5 +1,8 @@
 //! A call that is made anew for each of its growths, one of which is refused each time.
 
+ghost use Rattle.std.specs.Prelude.{◌≡◌, true};
+ghost use Rattle.hostile.specs.Answers.{made_as};
+
 use crate::refused::heap::{refuse, was_refused};
 use crate::refused::verdict::{Answer, Counts, Seen, Verdict, verdict_of};
 use std::alloc::{AllocError, Global};
@@ -53,7 +56,9 @@ pub fn sweep_made<T: Making>(alloc: Global, making: &T, counts: &mut Counts) {
 }
 
 /// What was seen of a call that answers so.
-fn seen_of(refused: bool, answer: Result<bool, AllocError>) -> Seen {
+fn seen_of(refused: bool, answer: Result<bool, AllocError>) -> Seen
+    ensures { result ≡ record { refused = refused; answer = made_as answer; right = true } }
+{
     let answer = match answer {
         Ok(true) => Answer::Same,
         Ok(false) => Answer::Other,

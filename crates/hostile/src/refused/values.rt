@@ -3,7 +3,7 @@
 use crate::refused::copies::Copied;
 use crate::refused::heap::{refuse, was_refused};
 use crate::refused::sweep::{LACKING, Making, Trial, sweep, sweep_made};
-use crate::refused::verdict::{Answer, Counts, Seen, Verdict};
+use crate::refused::verdict::{Answer, Counts, Seen, Verdict, told_as};
 use dial9_trace_format::decoder::DecodedFrame;
 use dial9_trace_format::leb128::EncodeError;
 use dial9_trace_format::types::{EventEncoder, FieldType, FieldValue, FieldValueRef};
@@ -36,15 +36,6 @@ fn spelling_of(alloc: Global, value: &FieldValue) -> Result<Option<Spelled<'_>>,
     }
 }
 
-/// What an answer of an encoder's call is, where it is to be accepted.
-fn answer_of(answer: Result<(), EncodeError>) -> Answer {
-    match answer {
-        Ok(()) => Answer::Same,
-        Err(EncodeError::OutOfMemory) => Answer::Memory,
-        Err(_) => Answer::Other,
-    }
-}
-
 /// `FieldValue::encode` over an array. After a refusal nothing was sent, and the value written again is its bytes.
 #[derive(Drop)]
 struct Encoded<'v>(&'v Spelled<'v>);
@@ -55,7 +46,7 @@ impl Trial for Encoded<'_> {
         refuse(alloc, number);
         let told = self.0.value.encode(alloc, &mut writer);
         let refused = was_refused(alloc);
-        let answer = answer_of(told);
+        let answer = told_as(told);
         let right = self.is_sent(alloc, answer, &mut writer);
         Seen {
             refused,
@@ -96,7 +87,7 @@ impl Appended<'_> {
         refuse(alloc, number);
         let told = append(out, self.0);
         let refused = was_refused(alloc);
-        let answer = answer_of(told);
+        let answer = told_as(told);
         let right = self.is_appended(answer, out);
         Seen {
             refused,

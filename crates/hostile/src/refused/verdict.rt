@@ -3,8 +3,10 @@
 ghost use Rattle.std.specs.Prelude.{◌≡◌, ◌↔◌, true, IsTrue};
 ghost use Rattle.hostile.specs.Verdicts.{IsUntouched, IsTold, IsAbsorbed, HasNone, IsRight, one_more_if};
 ghost use Rattle.hostile.specs.Verdicts.{is_told, is_absorbed, is_wrong};
+ghost use Rattle.hostile.specs.Answers.{told_as};
 ghost use Rattle.hostile.specs.declared.refused.verdict.Verdict.TheVariants as verdicts;
 
+use dial9_trace_format::leb128::EncodeError;
 use std::fmt;
 
 /// What a call answered, beside what it answers where no growth is refused.
@@ -16,6 +18,17 @@ pub enum Answer {
     Memory,
     /// Anything else.
     Other,
+}
+
+/// What an answer of an encoder's call is, where it is to be accepted.
+pub fn told_as(answer: Result<(), EncodeError>) -> Answer
+    ensures { result ≡ told_as answer }
+{
+    match answer {
+        Ok(()) => Answer::Same,
+        Err(EncodeError::OutOfMemory) => Answer::Memory,
+        Err(_) => Answer::Other,
+    }
 }
 
 /// What was seen of a call of which a growth was to be refused.
