@@ -23,10 +23,10 @@ pub record FieldAt (fields : List Field) (stats : List FieldStats) (i : ℕ) (f 
 
 -- with the lines of one more
 pub one_more :
-    {old now next : List ℕ} (fields : List Field) (stats : List FieldStats) (i : ℕ) (f : Field) (s : FieldStats) →
-    FieldAt fields stats i f s → now ≡ with_lines old i fields stats → next ≡ now ++ field_lines f.name s →
-    next ≡ with_lines old (i + 1) fields stats
-one_more {old} {now} {next} fields stats i f s at before more =
+    {now next : List ℕ} (old : List ℕ) (fields : List Field) (stats : List FieldStats) (i : ℕ) (f : Field)
+    (s : FieldStats) → FieldAt fields stats i f s → now ≡ with_lines old i fields stats →
+    next ≡ now ++ field_lines f.name s → next ≡ with_lines old (i + 1) fields stats
+one_more {now} {next} old fields stats i f s at before more =
     let pairs = zip fields stats in
     let lt : i < length pairs = omega (arith, at.inside, at.kept, length-zip fields stats) in
     let here : get_or pairs i (f, s) ≡ (f, s) =
@@ -48,11 +48,11 @@ all_lines old now fields stats i n count le is =
 
 -- how many floats are numbers, then their bounds, then how many are no numbers
 pub floats_appended :
-    {E : Type 0} (r : Result (Unit {0}) E) (s : FloatSummary) {old one two new : List ℕ} {m n : ℕ} → m ≡ s.count →
-    n ≡ s.not_numbers → one ≡ old ++ named_number (codes " count=") m → two ≡ one ++ bounds_text s →
+    {E : Type 0} (r : Result (Unit {0}) E) (s : FloatSummary) (old new : List ℕ) {one two : List ℕ} {m n : ℕ} →
+    m ≡ s.count → n ≡ s.not_numbers → one ≡ old ++ named_number (codes " count=") m → two ≡ one ++ bounds_text s →
     OnOk r (new ≡ two ++ named_number (codes " not_numbers=") n) → OnOk r (new ≡ old ++ floats_text s)
 unfolding floats_text
-floats_appended (Ok u) s {old} {one} {two} {new} {m} {n} count others first second third =
+floats_appended (Ok u) s old new {one} {two} {m} {n} count others first second third =
     let a : List ℕ = named_number (codes " count=") s.count in
     let b : List ℕ = bounds_text s in
     let c : List ℕ = named_number (codes " not_numbers=") s.not_numbers in
@@ -60,4 +60,4 @@ floats_appended (Ok u) s {old} {one} {two} {new} {m} {n} count others first seco
     let two_is : two ≡ old ++ a ++ b = second ∙ ap (λ (l : List ℕ). l ++ b) one_is in
     third ∙ ap (λ (k : ℕ). two ++ named_number (codes " not_numbers=") k) others
     ∙ ap (λ (l : List ℕ). l ++ c) (two_is ∙ append_assoc old a b) ∙ append_assoc old (a ++ b) c
-floats_appended (Err e) s count others first second third = tt
+floats_appended (Err e) s old new count others first second third = tt

@@ -9,7 +9,7 @@ pairs-preserved c =
     let inside : c.pairs.index < length c.args.fields.now = omega (arith, count, c.pairs-test.true) in
     let kept : c.pairs.index < length c.args.stats.now = omega (arith, count, c.pairs-test.true) in
     let name : c.name.result.now ≡ c.index-fields-index.result.name = search rules in
-    one_more {old = string_bytes c.args.out.now} c.args.fields.now c.args.stats.now c.pairs.index
+    one_more (string_bytes c.args.out.now) c.args.fields.now c.args.stats.now c.pairs.index
     c.index-fields-index.result c.index-stats-index.result
     (record { inside = inside; kept = kept; field = c.index-fields-index.is; stats_is = c.index-stats-index.is })
     c.pairs.invariant
