@@ -3,10 +3,11 @@
 
 A count is the difference of two traces of different length, divided by the difference.
 
-dumps.py [--time] PROGRAM [WORD ..]
+dumps.py [--time] PROGRAM [WORD ..] [-- PROGRAM [WORD ..]]
     PROGRAM with these words reads a trace from standard input and writes its lines, and with `--resolve` after them
     those of its events, resolved, as `tracedump` does. With --time it tells seconds of processor time instead, the
-    best of five, and the most memory, of 2,000,000 events.
+    best of nine, and the most memory, of 2,000,000 events. Two programs run in turn, and the ratio of the first to the
+    second is told.
 """
 import os
 import re
@@ -69,37 +70,49 @@ def instructions(words, path):
     return int(re.search(r"Collected : (\d+)", ended.stderr)[1])
 
 
-def taken(words, path):
-    """Seconds of processor time, and the most memory in KB."""
-    best, most = None, 0
-    for _ in range(5):
-        with open(path, "rb") as file:
-            process = subprocess.Popen(words, stdin=file, stdout=subprocess.DEVNULL)
-            _, _, used = os.wait4(process.pid, 0)
-        spent, most = used.ru_utime + used.ru_stime, max(most, used.ru_maxrss)
-        best = spent if best is None else min(best, spent)
-    return best, most
+def taken(programs, path):
+    """Seconds of processor time, and the most memory in KB, of programs that run in turn."""
+    found = [(float("inf"), 0)] * len(programs)
+    for _ in range(9):
+        for at, words in enumerate(programs):
+            with open(path, "rb") as file:
+                process = subprocess.Popen(words, stdin=file, stdout=subprocess.DEVNULL)
+                _, _, used = os.wait4(process.pid, 0)
+            best, most = found[at]
+            found[at] = (min(best, used.ru_utime + used.ru_stime), max(most, used.ru_maxrss))
+    return found
+
+
+def told(name, counts, unit):
+    ratio = f"  ratio {counts[0] / counts[1]:.2f}" if len(counts) == 2 else ""
+    print(f"{name}: " + ", ".join(f"{it:,.3f} {unit}" if unit == "s" else f"{it:,.0f} {unit}" for it in counts) + ratio,
+          flush=True)
+
+
+def programs_of(words):
+    """The words of one program, or of two with `--` between them."""
+    at = words.index("--") if "--" in words else len(words)
+    return [it for it in (words[:at], words[at + 1:]) if it]
 
 
 def main():
-    words = [word for word in sys.argv[1:] if word != "--time"]
+    timed = "--time" in sys.argv[1:]
+    programs = programs_of([word for word in sys.argv[1:] if word != "--time"])
     with tempfile.TemporaryDirectory() as room:
         few, many = f"{room}/few", f"{room}/many"
-        for work in WORKS:
-            timed = "--time" in sys.argv[1:]
-            if timed and work != "three numbers":
-                continue
+        for work in ["three numbers"] if timed else WORKS:
             trace(few, work, FEW)
             trace(many, work, LONG if timed else MANY)
             for resolve in ([], ["--resolve"]):
-                told = f"{work}, {'resolved' if resolve else 'plain'}"
+                name = f"{work}, {'resolved' if resolve else 'plain'}"
+                called = [[*words, *resolve] for words in programs]
                 if timed:
-                    spent, most = taken([*words, *resolve], many)
-                    print(f"{told}: {spent:.2f} s, {most} KB", flush=True)
+                    found = taken(called, many)
+                    told(name, [it[0] for it in found], "s")
+                    told(name, [it[1] for it in found], "KB")
                 else:
-                    one = (instructions([*words, *resolve], many)
-                           - instructions([*words, *resolve], few)) / (MANY - FEW)
-                    print(f"{told}: {one:.0f}", flush=True)
+                    told(name, [(instructions(words, many) - instructions(words, few)) / (MANY - FEW)
+                                for words in called], "instructions")
 
 
 main()

@@ -1,7 +1,9 @@
 #!/usr/bin/env python3
 """Makes the table of docs/SPEED.md, bad rows first, of what `count.py` printed.
 
-table.py COUNTS ..   each a file; a later one's rows stand in place of an earlier one's
+table.py COUNTS ..
+    Each a file. A later one's rows stand in place of an earlier one's. Rows of the original alone, as of a build in
+    another folder, count where they are fewer.
 """
 import re
 import sys
@@ -68,14 +70,16 @@ def row_of(name):
 
 
 def rows():
-    found = {}
+    found, alone = {}, {}
     for path in sys.argv[1:]:
         with open(path, encoding="utf-8") as file:
             for line in file:
-                numbers = re.match(r"(.*?) +orig +([\d.]+) port +([\d.]+)", line)
-                if numbers:
+                numbers = re.match(r"(.*?) +orig +([\d.]+)(?: port +([\d.]+))?", line)
+                if numbers and numbers[3]:
                     found[numbers[1]] = (float(numbers[2]), float(numbers[3]))
-    return found
+                elif numbers:
+                    alone.setdefault(numbers[1], []).append(float(numbers[2]))
+    return {name: (min([original, *alone.get(name, [])]), here) for name, (original, here) in found.items()}
 
 
 def main():
