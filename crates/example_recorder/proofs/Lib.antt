@@ -1,1 +1,1 @@
-pub mod RequestLemmas
+pub mod RequestByTwoCalls

@@ -1,8 +1,8 @@
-pub mod EndingLemmas
-pub mod MergingLemmas
-pub mod MomentLemmas
-pub mod NumberLemmas
-pub mod ProgressLemmas
-pub mod StatisticsLemmas
-pub mod PageLemmas
-pub mod LineLemmas
+pub mod EndingTexts
+pub mod SortWasDone
+pub mod TimesBesideMoments
+pub mod OneGroupMore
+pub mod PercentOfWhole
+pub mod LinesOfFields
+pub mod EndingOnPage
+pub mod ToldInOneLine

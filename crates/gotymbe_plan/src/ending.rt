@@ -303,7 +303,7 @@ pub(crate) fn stop_status(cause: DecodeErrorKind) -> u8
 /// Appends the line that tells how the reading of a file ended, its cause and its place; nothing where it ended well,
 /// or where a pipe was closed that is written to. It is one line, whatever the file's name. `AllocError` where a
 /// growth was refused.
-#[tactic(auto, using(crate::proofs::LineLemmas::line_told))]
+#[tactic(auto, using(crate::proofs::ToldInOneLine::line_told))]
 pub fn push_message(out: &mut String, name: &str, ending: Ending) -> Result<(), AllocError>
     ensures told { IsTold ending → OnOk result
         (AppendsLine name.now ending (string_bytes out.old) (string_bytes out.new)) }
@@ -318,7 +318,7 @@ pub fn push_message(out: &mut String, name: &str, ending: Ending) -> Result<(), 
 }
 
 /// Appends the line that tells that a file is whole. `AllocError` where a growth was refused.
-#[tactic(auto, using(crate::proofs::LineLemmas::whole_told))]
+#[tactic(auto, using(crate::proofs::ToldInOneLine::whole_told))]
 pub fn push_whole(out: &mut String, name: &str) -> Result<(), AllocError>
     ensures text { AppendsText (whole_line name.now) out.old out.new result }
     ensures line { OnOk result (AddsLine (string_bytes out.old) (string_bytes out.new)) }

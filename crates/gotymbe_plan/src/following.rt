@@ -64,7 +64,7 @@ pub fn is_anew(change: Change) -> bool
 
 /// Appends the line that tells why a file is read anew, and nothing where it is not. It is one line, whatever the
 /// file's name. `AllocError` where a growth was refused.
-#[tactic(auto, using(crate::proofs::LineLemmas::anew_told))]
+#[tactic(auto, using(crate::proofs::ToldInOneLine::anew_told))]
 pub fn push_anew(out: &mut String, name: &str, change: Change) -> Result<(), AllocError>
     ensures text { AppendsText (anew_line name.now change) out.old out.new result }
     ensures line { IsAnew change → OnOk result

@@ -46,7 +46,7 @@ pub fn how_far(done: u64, of: u64, elapsed_ms: u64) -> Progress
 }
 
 // A part of a whole, in hundredths.
-#[tactic(auto, using(crate::proofs::ProgressLemmas::percent_small))]
+#[tactic(auto, using(crate::proofs::PercentOfWhole::percent_small))]
 fn percent_of(done: u64, of: u64) -> u64
     requires { done < of }
     ensures percent { result ≡ done * 100 / of }

@@ -1,1 +1,1 @@
-pub mod ReadLemmas
+pub mod NumeralIsRead

@@ -15,7 +15,7 @@ use Rattle.dial9_trace_format.specs.ShownEvents.{names_of}
 use Rattle.dial9_trace_format.specs.declared.resolve.ResolvedValue.{ResolvedValue}
 use Rattle.dial9_trace_format.specs.declared.resolve.ResolvedValue.TheViews.{List as ResolvedList, Map as ResolvedMap}
 use Rattle.dial9_trace_format.specs.parts.ResolvedViews.{resolved_views, resolved_pair_views}
-use Rattle.dial9_trace_format.proofs.ResolvingLemmas.{items_seen, pairs_seen, view_resolved_list, view_resolved_map}
+use Rattle.dial9_trace_format.proofs.ValuesResolved.{items_seen, pairs_seen, view_resolved_list, view_resolved_map}
 
 -- ---- items and pairs of lists of different lengths
 

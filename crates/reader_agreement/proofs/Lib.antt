@@ -1,8 +1,8 @@
 pub mod Apart
-pub mod BesideLemmas
+pub mod SideBySide
 pub mod InFull
 pub mod Lookups
 pub mod PairsLeft
 pub mod ResolvedAnswers
-pub mod SignLemmas
+pub mod SignAtEachPlace
 pub mod TwoLists

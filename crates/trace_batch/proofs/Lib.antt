@@ -8,5 +8,5 @@ pub mod EventsSaid
 pub mod FramesTaken
 pub mod TooLong
 pub mod StatesRead
-pub mod ReadLawLemmas
+pub mod NextReadGoesOn
 pub mod AcceptedRecords

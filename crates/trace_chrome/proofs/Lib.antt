@@ -1,8 +1,8 @@
 mod Appending
 mod Closings
-mod CountLemmas
+mod OneCounterMore
 mod CutLines
-mod FrameLemmas
+mod FramesAsMembers
 mod Nesting
 mod Numbering
 mod Numerals

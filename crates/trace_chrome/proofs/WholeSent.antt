@@ -4,7 +4,7 @@ use Rattle.std.proofs.Common.{refl, sym, ap, subst, ◌∙◌, append_assoc, app
 use Rattle.std.proofs.lemmas.Grind.{flat_map-append}
 use Rattle.dial9_trace_format.specs.ShownEvents.{ShownEvent}
 use Rattle.trace_values.specs.Sending.{Account, TookOnly}
-use Rattle.trace_values.proofs.SendingLemmas.{TookOnly-join, TookOnly-none}
+use Rattle.trace_values.proofs.TwoStepsOfWriter.{TookOnly-join, TookOnly-none}
 use Rattle.trace_chrome.specs.Counters.{Sum, sums_of}
 use Rattle.trace_chrome.specs.Entries.{Told, Entry, entry_text, entries_text, head_text, tail_text}
 use Rattle.trace_chrome.specs.Frames.{Frame}

@@ -1,3 +1,3 @@
-pub mod ConversionLemmas
-pub mod NestedLemmas
-pub mod RunLemmas
+pub mod ConvertedFields
+pub mod ConvertedItemsAndPairs
+pub mod SentByConversion

@@ -1,5 +1,5 @@
-pub mod CellLemmas
-pub mod FileLemmas
-pub mod ColumnLemmas
-pub mod ManifestLemmas
-pub mod LawLemmas
+pub mod CellsOfRow
+pub mod KeptOfSchemaName
+pub mod OneColumnMore
+pub mod ManifestTokens
+pub mod RowsReadBack

@@ -1,3 +1,3 @@
-pub mod ResetLemmas
-pub mod CutLemmas
+pub mod ResetsInCopies
+pub mod OneFrameCopied
 pub mod WholeCuts

@@ -13,7 +13,7 @@ use Rattle.trace_cuts.specs.declared.copying.Copying.{Copying}
 use Rattle.trace_cuts.specs.declared.cut.Cut.{Cut}
 use Rattle.trace_cuts.specs.Cuts.{TellsConflict, IsCut}
 use Rattle.trace_cuts.specs.parts.Copies.{IsFresh, CopiesAll}
-use Rattle.trace_cuts.proofs.CutLemmas.{copied_none}
+use Rattle.trace_cuts.proofs.OneFrameCopied.{copied_none}
 
 header_is : (front : List ℕ) (version : ℕ) → IsHeader front version → length front ≡ header_length
 header_is front version h = ap length h.parts

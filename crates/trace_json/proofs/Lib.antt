@@ -3,6 +3,6 @@ pub mod OneMore
 pub mod KindsPut
 pub mod Floats
 pub mod Grown
-pub mod LineLemmas
+pub mod TokensMakeLine
 pub mod SentText
 pub mod Shallow

@@ -11,7 +11,7 @@ use Rattle.json.specs.Tree.{json_tokens, items_tokens, members_tokens}
 use Rattle.json.specs.Written.{Written}
 use Rattle.json.proofs.Printed.Tokens.{print_from-append}
 use Rattle.trace_values.specs.Sending.{Account, TookOnly}
-use Rattle.trace_values.proofs.SendingLemmas.{TookOnly-none, TookOnly-join}
+use Rattle.trace_values.proofs.TwoStepsOfWriter.{TookOnly-none, TookOnly-join}
 use Rattle.std.specs.declared.io.ErrorKind.{ErrorKind}
 use Rattle.trace_json.specs.Lines.{json_text, line_feed}
 use Rattle.trace_json.specs.Sending.{HeldFails, LineFails, SendsLine}

@@ -7,7 +7,7 @@ use Rattle.std.specs.declared.io.ErrorKind.{ErrorKind}
 use Rattle.trace_values.specs.Number.{AreBytes}
 use Rattle.trace_values.specs.Sending.{Account, Took, TookOnly}
 use Rattle.trace_values.proofs.FixedWidths.{AreBytes-right}
-use Rattle.trace_values.proofs.SendingLemmas.{Took-join, TookOnly-none, TookOnly-join}
+use Rattle.trace_values.proofs.TwoStepsOfWriter.{Took-join, TookOnly-none, TookOnly-join}
 use Rattle.dial9_trace_format.specs.Feeding.{FeedState, greatest_fed, new_feed}
 use Rattle.trace_lines.specs.Dumps.{failed_status, IsDump, BeginsDump, IsFrontOfDump, PrintsUpToFault}
 use Rattle.trace_lines.specs.Program.{DumpsAll}

@@ -9,7 +9,7 @@ use Rattle.trace_wire.specs.Runs.{step, IsRun, all_of_kind, Begins, EndsAs, Endi
 use Rattle.trace_wire.specs.Runs.{Pools, pools_after}
 use Rattle.dial9_trace_format.specs.Sinks.{events_of}
 use Rattle.dial9_trace_format.proofs.SinkRuns.{events_append}
-use Rattle.trace_wire.proofs.LawLemmas.{longest_exists, continued, items_append}
+use Rattle.trace_wire.proofs.OneLongestRun.{longest_exists, continued, items_append}
 use Rattle.trace_lines.specs.Lines.{line, item_line, whole_line, stopped_line, conflict_line}
 use Rattle.trace_lines.specs.ResolvedLines.{resolved_line, event_lines}
 use Rattle.trace_lines.specs.declared.dump.DumpForm.{DumpForm}

@@ -4,7 +4,7 @@ use Rattle.std.proofs.Common.{append_assoc, arith}
 use Rattle.std.proofs.lemmas.List.{append-nil, take-append-drop}
 use Rattle.std.specs.declared.io.ErrorKind.{ErrorKind}
 use Rattle.trace_values.specs.Sending.{Account, TookOnly}
-use Rattle.trace_values.proofs.SendingLemmas.{TookOnly-none, TookOnly-join}
+use Rattle.trace_values.proofs.TwoStepsOfWriter.{TookOnly-none, TookOnly-join}
 use Rattle.trace_lines.specs.declared.dump.DumpForm.{DumpForm}
 use Rattle.trace_lines.specs.Dumps.{IsDumpAs, BeginsDumpAs, PrintsUpToFault}
 use Rattle.trace_lines.specs.parts.Sent.{Sends}

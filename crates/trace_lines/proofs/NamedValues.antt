@@ -11,7 +11,7 @@ use Rattle.dial9_trace_format.specs.ShownEvents.{names_of}
 use Rattle.dial9_trace_format.specs.declared.resolve.error.DeserError.{DeserError}
 use Rattle.dial9_trace_format.specs.declared.resolve.error.DeserError.TheVariants as errors
 use Rattle.dial9_trace_format.specs.Resolving.{in_full, under_names, field_unresolved, unknown_ids, FirstUnresolved}
-use Rattle.dial9_trace_format.proofs.ResolvingLemmas.{named_none, all_resolved}
+use Rattle.dial9_trace_format.proofs.ValuesResolved.{named_none, all_resolved}
 use Rattle.trace_lines.specs.ResolvedLines.{entry_text}
 
 -- the first of the values that are left

@@ -9,14 +9,14 @@ use Rattle.trace_wire.specs.Frames.{Grammar, empty, Frame, Header, Schema, Event
 use Rattle.trace_wire.specs.Frames.{header_length}
 use Rattle.trace_wire.specs.Runs.{step, Begins, NoFrame, Ending, Whole, Stopped, Conflict, IsLongest, items, Pools}
 use Rattle.trace_wire.specs.Runs.{no_pools, pools_after}
-use Rattle.trace_wire.proofs.LawLemmas.{Begins-unique, uncons, no_step_more, at_once, longest_exists}
+use Rattle.trace_wire.proofs.OneLongestRun.{Begins-unique, uncons, no_step_more, at_once, longest_exists}
 use Rattle.dial9_trace_format.specs.Decoding.{DecoderState, StartsWith, IsHeadless, rest_of, Goes, Conflicts}
 use Rattle.dial9_trace_format.specs.declared.decoder.error.DecodeError.{DecodeError}
 use Rattle.dial9_trace_format.specs.Feeding.{FeedState, new_feed}
 use Rattle.dial9_trace_format.specs.Sticking.{IsStuckAt}
 use Rattle.dial9_trace_format.specs.Pulling.{reader_of, standing_at}
 use Rattle.dial9_trace_format.proofs.DecoderRuns.{goes_position}
-use Rattle.dial9_trace_format.proofs.FeedingLemmas.{after_start, longer_start, headless_stays}
+use Rattle.dial9_trace_format.proofs.PiecesGiveOneRun.{after_start, longer_start, headless_stays}
 use Rattle.trace_lines.specs.Lines.{line, first_line, whole_line, stopped_line, conflict_line, no_header_line}
 use Rattle.trace_lines.specs.declared.dump.DumpForm.TheVariants.{Frames}
 use Rattle.trace_lines.specs.declared.dump.Reader.TheVariants.{Owned}

@@ -6,7 +6,7 @@ use Rattle.std.specs.declared.io.ErrorKind.{ErrorKind}
 use Rattle.trace_values.specs.Number.{AreBytes}
 use Rattle.trace_values.specs.Sending.{Account, TookOnly}
 use Rattle.dial9_trace_format.specs.Feeding.{FeedState}
-use Rattle.dial9_trace_format.proofs.PullingLemmas.{pushed}
+use Rattle.dial9_trace_format.proofs.PullingIsFeeding.{pushed}
 use Rattle.trace_lines.specs.Dumps.{IsDumpFrom, IsDumpAs}
 use Rattle.trace_lines.specs.declared.dump.DumpForm.TheVariants.{Frames}
 use Rattle.trace_lines.specs.declared.dump.Reader.TheVariants.{Owned}

@@ -11,7 +11,7 @@ use Rattle.trace_values.specs.Number.{AreBytes}
 use Rattle.trace_values.specs.Sending.{Account, TookOnly}
 use Rattle.trace_values.specs.Values.{owned_reader, AreFields}
 use Rattle.trace_values.proofs.OptionsAndBytes.{some_is}
-use Rattle.trace_values.proofs.SendingLemmas.{TookOnly-none, TookOnly-join}
+use Rattle.trace_values.proofs.TwoStepsOfWriter.{TookOnly-none, TookOnly-join}
 use Rattle.trace_wire.specs.Frames.{Event}
 use Rattle.trace_wire.specs.Registries.{entry_under}
 use Rattle.trace_wire.specs.Schemas.{Entry, Field, WireType, types_of}
@@ -23,7 +23,7 @@ use Rattle.dial9_trace_format.specs.Pulling.{reader_of, standing_at}
 use Rattle.dial9_trace_format.specs.WholeEvents.{IsEventAt, IsWholeEvent, values_in}
 use Rattle.dial9_trace_format.specs.declared.decoder.feeding.whole.WholeEvent.{WholeEvent}
 use Rattle.dial9_trace_format.proofs.DecoderRuns.{at, event_step, goes_one}
-use Rattle.dial9_trace_format.proofs.PullingLemmas.{known_pulled, pushed}
+use Rattle.dial9_trace_format.proofs.PullingIsFeeding.{known_pulled, pushed}
 use Rattle.trace_lines.specs.Dumps.{PrintsUpToFault}
 use Rattle.trace_lines.specs.Lines.{line, item_line, event_line}
 use Rattle.trace_lines.specs.declared.pieces.Next.{Next}

@@ -17,7 +17,7 @@ use Rattle.dial9_trace_format.specs.Feeding.{FeedState, HasVersion}
 use Rattle.dial9_trace_format.specs.Pulling.{reader_of, standing_at, PullsFrame, PullsFew, PullsNoHeader, PullsNext}
 use Rattle.dial9_trace_format.specs.Pulling.{Pulls}
 use Rattle.dial9_trace_format.proofs.DecoderRuns.{goes_position, next_goes, item_shorter}
-use Rattle.dial9_trace_format.proofs.PullingLemmas.{known_pulled, same_failure}
+use Rattle.dial9_trace_format.proofs.PullingIsFeeding.{known_pulled, same_failure}
 use Rattle.trace_lines.specs.Lines.{line, item_line, first_line, no_header_line, stopped_line, conflict_line}
 use Rattle.trace_lines.specs.Dumps.{item_lines}
 use Rattle.trace_lines.specs.parts.PieceDumps.{LinesCome, LinesEnd, IsFed, IsWaiting, AppendsEnd, AppendsFirst}

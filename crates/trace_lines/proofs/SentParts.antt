@@ -4,7 +4,7 @@ use Rattle.std.proofs.Common.{append_assoc, append-nil, arith, string_bytes, Str
 use Rattle.std.proofs.lemmas.List.{take-append-drop}
 use Rattle.std.specs.declared.io.ErrorKind.{ErrorKind}
 use Rattle.trace_values.specs.Sending.{Account, TookOnly}
-use Rattle.trace_values.proofs.SendingLemmas.{TookOnly-none, TookOnly-join}
+use Rattle.trace_values.proofs.TwoStepsOfWriter.{TookOnly-none, TookOnly-join}
 use Rattle.trace_lines.specs.Dumps.{PrintsUpToFault}
 use Rattle.trace_lines.specs.SentLines.{Leaves, BeginsWith, GoThrough}
 use Rattle.trace_lines.specs.parts.SentLines.{GoOut, LineGrows, unsent}

@@ -4,7 +4,7 @@ use Rattle.std.specs.List.{join_by}
 use Rattle.trace_values.specs.Values.{Value, Items, Pairs, list, map}
 use Rattle.trace_values.specs.Reading.{values_to_items, values_to_pairs}
 use Rattle.dial9_trace_format.specs.parts.Resolving.{as_pools}
-use Rattle.dial9_trace_format.proofs.ResolvingLemmas.{items_seen, pairs_seen}
+use Rattle.dial9_trace_format.proofs.ValuesResolved.{items_seen, pairs_seen}
 use Rattle.trace_lines.specs.declared.value.Shown.{Shown}
 use Rattle.trace_lines.specs.declared.value.Shown.TheVariants.{Plain, InFull}
 use Rattle.trace_lines.specs.parts.InFull.{shown_in}

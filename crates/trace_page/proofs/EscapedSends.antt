@@ -2,7 +2,7 @@
 use Rattle.std.proofs.Common.{◌≡◌, ℕ, ◌+◌, List, [], ◌++◌, take, drop, sym, subst}
 use Rattle.std.proofs.Math.Seq.{take-add}
 use Rattle.trace_values.specs.Sending.{Account, TookOnly}
-use Rattle.trace_values.proofs.SendingLemmas.{TookOnly-join}
+use Rattle.trace_values.proofs.TwoStepsOfWriter.{TookOnly-join}
 use Rattle.trace_page.specs.Escaping.{escaped}
 use Rattle.trace_page.proofs.EscapedStrings.{escaped-append}
 

@@ -6,7 +6,7 @@ use Rattle.std.proofs.lemmas.Bool.{cases_eq, ne_eqb}
 use Rattle.std.proofs.Math.Seq.{take-append-add}
 use Rattle.std.specs.declared.io.ErrorKind.{ErrorKind}
 use Rattle.trace_values.specs.Sending.{Account, TookOnly}
-use Rattle.trace_values.proofs.SendingLemmas.{TookOnly-join, TookOnly-none}
+use Rattle.trace_values.proofs.TwoStepsOfWriter.{TookOnly-join, TookOnly-none}
 use Rattle.trace_page.specs.Escaping.{less_than, escaped, escaped_byte}
 use Rattle.trace_page.specs.Sending.{PageFails}
 use Rattle.trace_page.specs.declared.sending.PageError.{PageError}

@@ -20,7 +20,7 @@ use Rattle.dial9_trace_format.specs.declared.decoder.error.DecodeErrorKind.{Deco
 use Rattle.dial9_trace_format.specs.declared.decoder.error.DecodeErrorKind.TheVariants as error_kinds
 use Rattle.trace_wire.specs.declared.schema.WireTypeId.{WireTypeId}
 use Rattle.dial9_trace_format.proofs.DecoderRuns.{left_at, goes_inside}
-use Rattle.dial9_trace_format.proofs.CauseLemmas.{cause_is_no_frame}
+use Rattle.dial9_trace_format.proofs.AtMostOneCause.{cause_is_no_frame}
 use Rattle.trace_recordings.specs.declared.sink.EventCounter.{EventCounter}
 use Rattle.trace_recordings.specs.Tallies.{counted_up}
 use Rattle.trace_recordings.specs.Sinks.{counts, EndsAt, sink_text, IsStreamSink}

@@ -1,6 +1,6 @@
 pub mod Counting
-pub mod FieldLemmas
-pub mod FloatLemmas
-pub mod SameLemmas
-pub mod SchemaLemmas
-pub mod TraceLemmas
+pub mod ValueAddedToField
+pub mod FloatAddedToSummary
+pub mod TextsByTheirEnds
+pub mod EventAddedToSchema
+pub mod EventAddedToTrace

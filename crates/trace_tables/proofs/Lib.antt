@@ -1,8 +1,8 @@
 pub mod CopiedOption
 pub mod SortedEntries
-pub mod MapLemmas
-pub mod DenseLemmas
-pub mod PlacedLemmas
-pub mod TreeLemmas
-pub mod RunLemmas
-pub mod HashedLemmas
+pub mod OneKeyChanged
+pub mod FoundByCell
+pub mod PlacedById
+pub mod TreeAsFiniteMap
+pub mod RunAndOthers
+pub mod HashedAsFiniteMap

@@ -1,4 +1,4 @@
 pub mod TwoCalls
 pub mod CountedEvents
 pub mod GoingOnAfterTorn
-pub mod HalvesLemmas
+pub mod TwoPiecesAsWhole

@@ -8,7 +8,7 @@ use Rattle.json.specs.Token.{Token}
 use Rattle.json.specs.Written.{Written}
 use Rattle.json.proofs.Printed.Tokens.{print_from-append}
 use Rattle.trace_values.specs.Sending.{Account}
-use Rattle.trace_values.proofs.SendingLemmas.{TookOnly-none, TookOnly-join}
+use Rattle.trace_values.proofs.TwoStepsOfWriter.{TookOnly-none, TookOnly-join}
 use Rattle.trace_json.specs.parts.Growing.{WriterGrows, WriterRefuses}
 use Rattle.trace_json.specs.parts.SentJson.{JsonFails, JsonGrows, faults_of, not_sent}
 use Rattle.trace_json.specs.declared.growing.SentJson.{SentJson}

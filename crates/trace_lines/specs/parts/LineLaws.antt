@@ -2,7 +2,7 @@
 use Rattle.std.specs.Prelude.{◌≡◌, ℕ, List, [], ◌++◌, Result, Ok, Err, string_bytes}
 use Rattle.std.proofs.Common.{refl, sym, ap, ◌∙◌, append-nil, append_assoc}
 use Rattle.trace_values.specs.Sending.{Account}
-use Rattle.trace_values.proofs.SendingLemmas.{TookOnly-none, TookOnly-join}
+use Rattle.trace_values.proofs.TwoStepsOfWriter.{TookOnly-none, TookOnly-join}
 use Rattle.trace_lines.specs.SentLines.{Leaves, GoThrough}
 use Rattle.trace_lines.specs.parts.SentLines.{LineGrows, unsent}
 use Rattle.trace_lines.specs.declared.sent_lines.Lines.{Lines}

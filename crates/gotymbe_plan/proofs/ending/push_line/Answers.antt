@@ -1,5 +1,5 @@
 use Rattle.std.proofs.Common.{rules, ◌≡◌, ◌++◌, codes, string_bytes, OnOk}
-use Rattle.gotymbe_plan.proofs.EndingLemmas.{line_appended}
+use Rattle.gotymbe_plan.proofs.EndingTexts.{line_appended}
 use Rattle.gotymbe_plan.proofs.ending.push_line.Goals as goal
 
 pub returns : goal.returns

@@ -1,5 +1,5 @@
 use Rattle.std.proofs.Common.{string_bytes}
-use Rattle.gotymbe_plan.proofs.EndingLemmas.{unread_appended, unwritten_appended}
+use Rattle.gotymbe_plan.proofs.EndingTexts.{unread_appended, unwritten_appended}
 use Rattle.gotymbe_plan.proofs.ending.push_reason.Goals as goal
 
 pub returns-in-Unread : goal.returns-in-Unread

@@ -1,5 +1,5 @@
 use Rattle.std.proofs.Common.{string_bytes}
-use Rattle.gotymbe_plan.proofs.EndingLemmas.{stop_appended}
+use Rattle.gotymbe_plan.proofs.EndingTexts.{stop_appended}
 use Rattle.gotymbe_plan.proofs.ending.push_stop.Goals as goal
 
 pub returns : goal.returns

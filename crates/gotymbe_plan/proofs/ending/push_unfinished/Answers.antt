@@ -1,5 +1,5 @@
 use Rattle.std.proofs.Common.{string_bytes}
-use Rattle.gotymbe_plan.proofs.EndingLemmas.{unfinished_appended}
+use Rattle.gotymbe_plan.proofs.EndingTexts.{unfinished_appended}
 use Rattle.gotymbe_plan.proofs.ending.push_unfinished.Goals as goal
 
 pub returns : goal.returns

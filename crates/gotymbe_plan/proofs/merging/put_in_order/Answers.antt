@@ -1,6 +1,6 @@
 use Rattle.std.proofs.Common.{rules}
 use Rattle.std.proofs.lemmas.List.Sorted.{IsNonDecreasingBy-from_sort_by_key, answers_always}
-use Rattle.gotymbe_plan.proofs.MergingLemmas.{on_ok-follows}
+use Rattle.gotymbe_plan.proofs.SortWasDone.{on_ok-follows}
 use Rattle.gotymbe_plan.proofs.merging.put_in_order.Goals as goal
 
 pub returns-clause-ordered : goal.returns-clause-ordered

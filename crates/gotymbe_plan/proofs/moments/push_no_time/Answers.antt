@@ -1,5 +1,5 @@
 use Rattle.std.proofs.Common.{string_bytes, codes}
-use Rattle.gotymbe_plan.proofs.MomentLemmas.{no_time_appended, appended_if_ok}
+use Rattle.gotymbe_plan.proofs.TimesBesideMoments.{no_time_appended, appended_if_ok}
 use Rattle.gotymbe_plan.proofs.moments.push_no_time.Goals as goal
 
 pub returns : goal.returns

@@ -1,5 +1,5 @@
 use Rattle.std.proofs.Common.{rules, ◌≡◌, ◌++◌, ◌≤◌, codes, string_bytes, arith}
-use Rattle.gotymbe_plan.proofs.NumberLemmas.{one_group_more}
+use Rattle.gotymbe_plan.proofs.OneGroupMore.{one_group_more}
 use Rattle.gotymbe_plan.proofs.numbers.+push_grouped.Goals as goal
 
 pub returns : goal.returns

@@ -1,5 +1,5 @@
 use Rattle.std.proofs.Common.{string_bytes}
-use Rattle.gotymbe_plan.proofs.PageLemmas.{end_appended}
+use Rattle.gotymbe_plan.proofs.EndingOnPage.{end_appended}
 use Rattle.gotymbe_plan.proofs.page.push_told.Goals as goal
 
 pub returns : goal.returns

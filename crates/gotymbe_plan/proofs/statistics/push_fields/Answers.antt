@@ -1,6 +1,6 @@
 use Rattle.std.proofs.Common.{◌≡◌, ◌<◌, ◌≤◌, ◌++◌, ◌∙◌, ℕ, List, ap, arith, length, min, rules, string_bytes}
 use Rattle.gotymbe_plan.specs.Statistics.{field_lines}
-use Rattle.gotymbe_plan.proofs.StatisticsLemmas.{one_more, all_lines}
+use Rattle.gotymbe_plan.proofs.LinesOfFields.{one_more, all_lines}
 use Rattle.gotymbe_plan.proofs.statistics.push_fields.Goals as goal
 
 pub pairs-preserved : goal.pairs-preserved

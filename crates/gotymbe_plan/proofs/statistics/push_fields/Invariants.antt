@@ -1,5 +1,5 @@
 use Rattle.std.proofs.Common.{◌≡◌, string_bytes}
-use Rattle.gotymbe_plan.proofs.StatisticsLemmas.{with_lines}
+use Rattle.gotymbe_plan.proofs.LinesOfFields.{with_lines}
 use Rattle.gotymbe_plan.proofs.statistics.push_fields.Given as goal
 
 abbrev pub invariant-pairs : goal.invariant-pairs

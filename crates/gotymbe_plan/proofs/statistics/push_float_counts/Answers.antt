@@ -1,4 +1,4 @@
-use Rattle.gotymbe_plan.proofs.StatisticsLemmas.{floats_appended}
+use Rattle.gotymbe_plan.proofs.LinesOfFields.{floats_appended}
 use Rattle.gotymbe_plan.proofs.statistics.push_float_counts.Goals as goal
 
 pub returns : goal.returns

@@ -1,7 +1,7 @@
 use Rattle.std.proofs.Common.{ℕ, List, Result}
 use Rattle.std.specs.Str.Parse.{ParsesUnsigned, ExplainsUnsignedError, HasUnsignedDigitsIfOk}
 use Rattle.std.specs.declared.num.ParseIntError.{ParseIntError}
-use Rattle.gotymbe_words.proofs.ReadLemmas.{numeral_read}
+use Rattle.gotymbe_words.proofs.NumeralIsRead.{numeral_read}
 use Rattle.gotymbe_words.proofs.asked.number_of.Goals as goal
 
 -- what reading a number gives

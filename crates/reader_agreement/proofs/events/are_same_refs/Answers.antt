@@ -1,5 +1,5 @@
 use Rattle.std.proofs.Common.{arith}
-use Rattle.dial9_trace_format.proofs.IteratingLemmas.{refs_apart}
+use Rattle.dial9_trace_format.proofs.IterationShortens.{refs_apart}
 use Rattle.reader_agreement.proofs.events.are_same_refs.Goals as goal
 
 pub returns-then-a-b : goal.returns-then-a-b

@@ -1,5 +1,5 @@
 use Rattle.std.proofs.Common.{refl}
-use Rattle.reader_agreement.proofs.BesideLemmas.{begins}
+use Rattle.reader_agreement.proofs.SideBySide.{begins}
 use Rattle.reader_agreement.proofs.events.gives_names.Goals as goal
 
 pub loop-field-init : goal.loop-field-init

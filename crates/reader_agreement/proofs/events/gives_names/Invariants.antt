@@ -1,6 +1,6 @@
 use Rattle.std.proofs.Common.{◌≡◌, drop}
 use Rattle.dial9_trace_format.specs.ShownEvents.{names_left, names_of}
-use Rattle.reader_agreement.proofs.BesideLemmas.{LeftAlike}
+use Rattle.reader_agreement.proofs.SideBySide.{LeftAlike}
 use Rattle.reader_agreement.proofs.events.gives_names.Given as goal
 
 abbrev pub invariant-loop-field : goal.invariant-loop-field

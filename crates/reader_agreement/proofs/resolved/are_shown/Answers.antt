@@ -2,7 +2,7 @@ use Rattle.std.proofs.Common.{◌≡◌, ℕ, ◌+◌, ◌<◌, List, ◌∷◌,
 use Rattle.std.proofs.lemmas.List.{drop_more, drop_all}
 use Rattle.std.specs.Prelude.{string_bytes}
 use Rattle.trace_values.specs.TraceFields.{string_pairs}
-use Rattle.reader_agreement.proofs.BesideLemmas.{at_end, begins, one_more, one_other}
+use Rattle.reader_agreement.proofs.SideBySide.{at_end, begins, one_more, one_other}
 use Rattle.reader_agreement.proofs.resolved.are_shown.Goals as goal
 
 abbrev Owned : Type 0

@@ -2,7 +2,7 @@ use Rattle.std.proofs.Common.{◌≡◌, drop}
 use Rattle.trace_values.specs.Raw.{texts_front}
 use Rattle.trace_values.specs.RawViews.{string_map_view, texts_left}
 use Rattle.trace_values.specs.TraceFields.{string_pairs}
-use Rattle.reader_agreement.proofs.BesideLemmas.{LeftAlike}
+use Rattle.reader_agreement.proofs.SideBySide.{LeftAlike}
 use Rattle.reader_agreement.proofs.resolved.are_shown.Given as goal
 
 abbrev pub invariant-loop-pair : goal.invariant-loop-pair

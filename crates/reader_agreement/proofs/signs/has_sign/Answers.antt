@@ -1,7 +1,7 @@
 use Rattle.std.proofs.Common.{refl, sym, ◌∙◌}
 use Rattle.std.proofs.lemmas.List.{at_drop_all}
 use Rattle.reader_agreement.specs.Signs.{has_sign}
-use Rattle.reader_agreement.proofs.SignLemmas.{not_here, slice_is, stands_here}
+use Rattle.reader_agreement.proofs.SignAtEachPlace.{not_here, slice_is, stands_here}
 use Rattle.reader_agreement.proofs.signs.has_sign.Goals as goal
 
 pub loop-i-init : goal.loop-i-init

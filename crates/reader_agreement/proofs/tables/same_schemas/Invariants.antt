@@ -1,7 +1,7 @@
 use Rattle.std.proofs.Common.{◌≡◌}
 use Rattle.std.specs.FinMap as map
 use Rattle.trace_wire.specs.Registries.{entries_of}
-use Rattle.reader_agreement.proofs.BesideLemmas.{LeftAlike}
+use Rattle.reader_agreement.proofs.SideBySide.{LeftAlike}
 use Rattle.reader_agreement.proofs.tables.same_schemas.Given as goal
 
 abbrev pub invariant-loop-id : goal.invariant-loop-id

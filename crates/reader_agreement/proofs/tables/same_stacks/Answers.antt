@@ -1,5 +1,5 @@
 use Rattle.std.proofs.Common.{◌∙◌}
-use Rattle.reader_agreement.proofs.BesideLemmas.{at_end, map_begins, one_more, one_other}
+use Rattle.reader_agreement.proofs.SideBySide.{at_end, map_begins, one_more, one_other}
 use Rattle.reader_agreement.proofs.tables.same_stacks.Goals as goal
 
 pub loop-id-init : goal.loop-id-init

@@ -1,5 +1,5 @@
 use Rattle.std.proofs.Common.{◌≡◌}
-use Rattle.reader_agreement.proofs.BesideLemmas.{LeftAlike}
+use Rattle.reader_agreement.proofs.SideBySide.{LeftAlike}
 use Rattle.reader_agreement.proofs.tables.same_stacks.Given as goal
 
 abbrev pub invariant-loop-id : goal.invariant-loop-id

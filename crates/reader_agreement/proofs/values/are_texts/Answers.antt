@@ -3,7 +3,7 @@ use Rattle.std.proofs.lemmas.Bool.{false≢true}
 use Rattle.std.proofs.lemmas.List.{drop_more, drop_all, length-map}
 use Rattle.trace_values.specs.Raw.{pairs_in}
 use Rattle.trace_values.specs.ValueViews.{text_pairs_view}
-use Rattle.reader_agreement.proofs.BesideLemmas.{begins, one_more, one_other, same_heads}
+use Rattle.reader_agreement.proofs.SideBySide.{begins, one_more, one_other, same_heads}
 use Rattle.reader_agreement.proofs.PairsLeft.{all_stand, none_left, one_can_be_read, one_is_read}
 use Rattle.reader_agreement.proofs.values.are_texts.Goals as goal
 

@@ -2,7 +2,7 @@ use Rattle.std.proofs.Common.{◌≡◌, ◌-◌, length, drop}
 use Rattle.trace_values.specs.Raw.{pairs_in}
 use Rattle.trace_values.specs.RawViews.{string_map_view}
 use Rattle.trace_values.specs.ValueViews.{text_pairs_view}
-use Rattle.reader_agreement.proofs.BesideLemmas.{LeftAlike}
+use Rattle.reader_agreement.proofs.SideBySide.{LeftAlike}
 use Rattle.reader_agreement.proofs.PairsLeft.{AreWhole}
 use Rattle.reader_agreement.proofs.values.are_texts.Given as goal
 

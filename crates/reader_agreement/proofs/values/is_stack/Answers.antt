@@ -1,6 +1,6 @@
 use Rattle.std.proofs.Common.{ℕ, refl}
 use Rattle.std.proofs.lemmas.List.{drop_more, drop_all}
-use Rattle.reader_agreement.proofs.BesideLemmas.{at_end, begins, one_more, one_other}
+use Rattle.reader_agreement.proofs.SideBySide.{at_end, begins, one_more, one_other}
 use Rattle.reader_agreement.proofs.values.is_stack.Goals as goal
 
 pub loop-address-init : goal.loop-address-init

@@ -1,6 +1,6 @@
 use Rattle.std.proofs.Common.{◌≡◌, drop}
 use Rattle.trace_values.specs.RawViews.{addresses_left, stack_view}
-use Rattle.reader_agreement.proofs.BesideLemmas.{LeftAlike}
+use Rattle.reader_agreement.proofs.SideBySide.{LeftAlike}
 use Rattle.reader_agreement.proofs.values.is_stack.Given as goal
 
 abbrev pub invariant-loop-address : goal.invariant-loop-address

@@ -1,6 +1,6 @@
 use Rattle.std.proofs.Common.{◌≡◌, rules}
 use Rattle.trace_events.specs.OwnedEvents.{owned_event}
-use Rattle.trace_chrome.proofs.CountLemmas.{something_shown, one_counted, none_counted}
+use Rattle.trace_chrome.proofs.OneCounterMore.{something_shown, one_counted, none_counted}
 use Rattle.trace_chrome.proofs.counters.push_counter.Goals as goal
 
 pub returns-in-Some-clause-text : goal.returns-in-Some-clause-text

@@ -2,7 +2,7 @@ use Rattle.std.proofs.Common.{◌≡◌, length, refl, sym, ◌∙◌, rules}
 use Rattle.std.proofs.lemmas.List.{length-map}
 use Rattle.trace_values.specs.ValueViews.{view}
 use Rattle.trace_events.specs.OwnedEvents.{owned_event}
-use Rattle.trace_chrome.proofs.CountLemmas.{sums_added, count_added, none_before, all_summed, all_counted}
+use Rattle.trace_chrome.proofs.OneCounterMore.{sums_added, count_added, none_before, all_summed, all_counted}
 use Rattle.trace_chrome.proofs.counters.push_counters.Goals as goal
 
 pub values-init : goal.values-init

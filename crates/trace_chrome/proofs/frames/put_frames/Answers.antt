@@ -1,4 +1,4 @@
-use Rattle.trace_chrome.proofs.FrameLemmas.{frames_put}
+use Rattle.trace_chrome.proofs.FramesAsMembers.{frames_put}
 use Rattle.trace_chrome.proofs.frames.put_frames.Goals as goal
 
 pub returns-clause-tokens : goal.returns-clause-tokens

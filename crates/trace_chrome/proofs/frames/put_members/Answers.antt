@@ -1,5 +1,5 @@
 use Rattle.std.proofs.Common.{rules}
-use Rattle.trace_chrome.proofs.FrameLemmas.{frame_put}
+use Rattle.trace_chrome.proofs.FramesAsMembers.{frame_put}
 use Rattle.trace_chrome.proofs.frames.put_members.Goals as goal
 
 pub frames-preserved : goal.frames-preserved

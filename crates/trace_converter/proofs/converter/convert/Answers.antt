@@ -1,4 +1,4 @@
-use Rattle.trace_converter.proofs.ConversionLemmas.{event_written, event_refused}
+use Rattle.trace_converter.proofs.ConvertedFields.{event_written, event_refused}
 use Rattle.trace_converter.proofs.converter.convert.Goals as goal
 
 pub returns-in-Ok-clause-converted : goal.returns-in-Ok-clause-converted

@@ -4,8 +4,8 @@ use Rattle.trace_values.specs.Refs.{ref_view}
 use Rattle.trace_values.specs.ValueViews.{view, views}
 use Rattle.trace_wire.specs.Schemas.{Field}
 use Rattle.dial9_trace_format.specs.ShownEvents.{shown_event}
-use Rattle.trace_converter.proofs.ConversionLemmas.{field_lacks, field_found, no_room, value_refused, names_at}
-use Rattle.trace_converter.proofs.ConversionLemmas.{has_more, views_more}
+use Rattle.trace_converter.proofs.ConvertedFields.{field_lacks, field_found, no_room, value_refused, names_at}
+use Rattle.trace_converter.proofs.ConvertedFields.{has_more, views_more}
 use Rattle.trace_converter.proofs.converter.keep.Goals as goal
 
 pub returns-in_default-clause-refused : goal.returns-in_default-clause-refused

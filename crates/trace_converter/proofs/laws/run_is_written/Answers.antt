@@ -1,4 +1,4 @@
-use Rattle.trace_converter.proofs.RunLemmas.{RunLaws, run_is_written}
+use Rattle.trace_converter.proofs.SentByConversion.{RunLaws, run_is_written}
 use Rattle.trace_converter.proofs.laws.run_is_written.Goals as goal
 
 pub returns : goal.returns

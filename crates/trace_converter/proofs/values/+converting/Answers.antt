@@ -4,7 +4,8 @@ use Rattle.trace_values.specs.declared.types.field_value.FieldValue.{FieldValue}
 use Rattle.trace_values.proofs.RefSizes.{key_ref_in, ref_in, value_holds_ref_pairs, value_holds_refs, value_ref_in}
 use Rattle.trace_values.proofs.ValueSizes.{falls_2, steps_2}
 use Rattle.dial9_trace_format.specs.ShownEvents.{shown_event}
-use Rattle.trace_converter.proofs.NestedLemmas.{item_converted, item_stops, pair_converted, pair_stops, map_refused}
+use Rattle.trace_converter.proofs.ConvertedItemsAndPairs.{item_converted, item_stops, pair_converted, pair_stops}
+use Rattle.trace_converter.proofs.ConvertedItemsAndPairs.{map_refused}
 use Rattle.trace_converter.proofs.values.+converting.Goals as goal
 
 pub converted-returns-in_err-pairs-in-Map-clause-refused : goal.converted-returns-in_err-pairs-in-Map-clause-refused

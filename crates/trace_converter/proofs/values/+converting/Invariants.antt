@@ -1,5 +1,5 @@
 use Rattle.dial9_trace_format.specs.ShownEvents.{shown_event}
-use Rattle.trace_converter.proofs.NestedLemmas.{ConvertsFirstItems, ConvertsFirstPairs}
+use Rattle.trace_converter.proofs.ConvertedItemsAndPairs.{ConvertsFirstItems, ConvertsFirstPairs}
 use Rattle.trace_converter.proofs.values.+converting.Given as goal
 
 abbrev pub invariant-converted_items-loop-item : goal.invariant-converted_items-loop-item

@@ -3,8 +3,8 @@ use Rattle.std.specs.Prelude.{Some}
 use Rattle.std.specs.FinMap as finmap
 use Rattle.dial9_trace_format.specs.parts.Resolving.{as_pools}
 use Rattle.trace_csv.specs.Cells.{IsCellOf}
-use Rattle.trace_csv.proofs.CellLemmas.{Pushed, cell_pushed, text_cell, pooled_cell, absent_cell}
-use Rattle.trace_csv.proofs.CellLemmas.{natural_pushed}
+use Rattle.trace_csv.proofs.CellsOfRow.{Pushed, cell_pushed, text_cell, pooled_cell, absent_cell}
+use Rattle.trace_csv.proofs.CellsOfRow.{natural_pushed}
 use Rattle.trace_csv.proofs.cells.push_cell.Goals as goal
 
 pub returns-in-Text : goal.returns-in-Text

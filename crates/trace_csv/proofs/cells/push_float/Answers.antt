@@ -2,7 +2,7 @@ use Rattle.std.proofs.Common.{◌≡◌, rules}
 use Rattle.dial9_trace_format.specs.parts.Resolving.{as_pools}
 use Rattle.trace_json.specs.EventJson.{special_text}
 use Rattle.trace_csv.specs.Cells.{IsCellOf}
-use Rattle.trace_csv.proofs.CellLemmas.{Pushed, cell_pushed, special_cell}
+use Rattle.trace_csv.proofs.CellsOfRow.{Pushed, cell_pushed, special_cell}
 use Rattle.trace_csv.proofs.cells.push_float.Goals as goal
 
 pub returns : goal.returns

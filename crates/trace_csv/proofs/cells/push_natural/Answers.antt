@@ -1,6 +1,6 @@
 use Rattle.std.proofs.Common.{◌≡◌, ℕ, List, refl, rules}
 use Rattle.std.specs.Fmt.{decimal}
-use Rattle.trace_csv.proofs.CellLemmas.{Pushed, cell_pushed}
+use Rattle.trace_csv.proofs.CellsOfRow.{Pushed, cell_pushed}
 use Rattle.trace_csv.proofs.cells.push_natural.Goals as goal
 
 pub returns : goal.returns

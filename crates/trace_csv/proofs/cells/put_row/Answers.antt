@@ -1,6 +1,6 @@
 use Rattle.std.specs.Fmt.{decimal}
 use Rattle.dial9_trace_format.specs.parts.Resolving.{as_pools}
-use Rattle.trace_csv.proofs.CellLemmas.{next_cell, all_cells, first_cell}
+use Rattle.trace_csv.proofs.CellsOfRow.{next_cell, all_cells, first_cell}
 use Rattle.trace_csv.proofs.cells.put_row.Goals as goal
 
 pub fields-init : goal.fields-init

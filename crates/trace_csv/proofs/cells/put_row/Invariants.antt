@@ -1,7 +1,7 @@
 use Rattle.std.proofs.Common.{take, map as list_map}
 use Rattle.std.specs.Fmt.{decimal}
 use Rattle.dial9_trace_format.specs.parts.Resolving.{as_pools}
-use Rattle.trace_csv.proofs.CellLemmas.{HasCells}
+use Rattle.trace_csv.proofs.CellsOfRow.{HasCells}
 use Rattle.trace_csv.proofs.cells.put_row.Given as goal
 
 abbrev pub invariant-fields : goal.invariant-fields

@@ -1,7 +1,7 @@
 use Rattle.std.proofs.Common.{◌≡◌, ◌++◌, ◌∷◌, [], rules}
 use Rattle.csv.specs.Records.{fields_of, partial_of}
 use Rattle.trace_csv.specs.Columns.{column_name, time_name}
-use Rattle.trace_csv.proofs.ColumnLemmas.{one_name_more}
+use Rattle.trace_csv.proofs.OneColumnMore.{one_name_more}
 use Rattle.trace_csv.proofs.columns.put_columns.Goals as goal
 
 pub fields-preserved : goal.fields-preserved

@@ -3,7 +3,7 @@ use Rattle.std.proofs.Common.{rules, arith, ap, sym, subst, ◌∙◌, string_by
 use Rattle.std.specs.Fmt.{decimal}
 use Rattle.std.specs.List.{All}
 use Rattle.trace_csv.specs.Files.{dash, is_kept, table_name}
-use Rattle.trace_csv.proofs.FileLemmas.{kept_on, other_left, full_left, all_kept, table_name_kept}
+use Rattle.trace_csv.proofs.KeptOfSchemaName.{kept_on, other_left, full_left, all_kept, table_name_kept}
 use Rattle.trace_csv.proofs.files.table_name.Goals.{then-left-gt0+then-is_kept+in_ok-push, else-left-gt0}
 use Rattle.trace_csv.proofs.files.table_name.Goals.{else-left-gt0-via-then-left-gt0+else-is_kept}
 use Rattle.trace_csv.proofs.files.table_name.Goals.{else-left-gt0-via-else-left-gt0}

@@ -1,6 +1,6 @@
 use Rattle.std.proofs.Common.{refl}
 use Rattle.trace_csv.specs.Columns.{column_names}
-use Rattle.trace_csv.proofs.LawLemmas.{table_read_back}
+use Rattle.trace_csv.proofs.RowsReadBack.{table_read_back}
 use Rattle.trace_csv.proofs.laws.rows_read_back.Goals as goal
 
 pub returns : goal.returns

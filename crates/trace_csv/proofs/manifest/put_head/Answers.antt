@@ -1,4 +1,4 @@
-use Rattle.trace_csv.proofs.ManifestLemmas.{put_eight}
+use Rattle.trace_csv.proofs.ManifestTokens.{put_eight}
 use Rattle.trace_csv.proofs.manifest.put_head.Goals as goal
 
 pub returns-8-clause-tokens : goal.returns-8-clause-tokens

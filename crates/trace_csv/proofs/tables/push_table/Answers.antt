@@ -1,7 +1,7 @@
 use Rattle.std.proofs.Common.{◌≡◌, ◌++◌, length, rules, string_bytes}
 use Rattle.std.specs.List.{flat_map, range_with_len}
 use Rattle.trace_csv.specs.Tables.{column_text, table_head, table_end}
-use Rattle.trace_csv.proofs.ColumnLemmas.{one_column_more, table_ended}
+use Rattle.trace_csv.proofs.OneColumnMore.{one_column_more, table_ended}
 use Rattle.trace_csv.proofs.tables.push_table.Goals as goal
 
 pub fields-preserved : goal.fields-preserved

@@ -1,5 +1,5 @@
 use Rattle.std.proofs.Common.{arith}
-use Rattle.dial9_trace_format.proofs.PullingLemmas.{was_pushed}
+use Rattle.dial9_trace_format.proofs.PullingIsFeeding.{was_pushed}
 use Rattle.trace_lines.proofs.PiecesGathered.{pushed_fed}
 use Rattle.trace_lines.proofs.PiecesHeld.{counted_on, piece_held, piece_refused}
 use Rattle.trace_lines.proofs.pieces.gather_piece.Goals as goal

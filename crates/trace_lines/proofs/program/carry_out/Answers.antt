@@ -1,5 +1,5 @@
 use Rattle.std.proofs.Common.{◌≡◌, ◌∙◌, refl, [], inl, arith, le_refl, subst, sym}
-use Rattle.trace_values.proofs.SendingLemmas.{TookOnly-none}
+use Rattle.trace_values.proofs.TwoStepsOfWriter.{TookOnly-none}
 use Rattle.trace_lines.specs.declared.program.Task.{Task}
 use Rattle.trace_lines.specs.declared.program.Task.TheVariants.{Dump, Resolve}
 use Rattle.trace_lines.specs.parts.Program.{resolves, DumpsFront}

@@ -4,7 +4,7 @@ use Rattle.trace_wire.specs.Schemas.{Field}
 use Rattle.dial9_trace_format.specs.ShownEvents.{names_of}
 use Rattle.dial9_trace_format.specs.parts.Resolving.{as_pools}
 use Rattle.dial9_trace_format.specs.Resolving.{field_unresolved}
-use Rattle.dial9_trace_format.proofs.ResolvingLemmas.{field_first}
+use Rattle.dial9_trace_format.proofs.ValuesResolved.{field_first}
 use Rattle.trace_lines.proofs.NamedValues.{no_name_left, field_known, all_known}
 use Rattle.trace_lines.proofs.resolved.fields_known.Goals as goal
 

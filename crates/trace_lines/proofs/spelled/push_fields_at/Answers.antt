@@ -3,7 +3,7 @@ use Rattle.std.proofs.lemmas.List.{drop_all, length-map}
 use Rattle.std.proofs.lemmas.Result.{err_from_is_err_and}
 use Rattle.trace_values.specs.declared.types.field_type.FieldType.{FieldType}
 use Rattle.trace_wire.specs.Schemas.{Field, types_of}
-use Rattle.trace_wire.proofs.ReadLemmas.{dropped_field}
+use Rattle.trace_wire.proofs.ReadersGoOn.{dropped_field}
 use Rattle.trace_lines.proofs.SpelledParts.{fields_begin, fields_end, fields_go_on, fields_stop, fields_stop_first}
 use Rattle.trace_lines.proofs.spelled.push_fields_at.Goals as goal
 

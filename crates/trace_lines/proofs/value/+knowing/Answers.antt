@@ -2,8 +2,8 @@ use Rattle.std.proofs.Common.{refl, arith}
 use Rattle.std.proofs.lemmas.Result.{err_from_is_err_and}
 use Rattle.trace_values.proofs.ValueSizes.{falls_2, steps_2}
 use Rattle.dial9_trace_format.specs.parts.Resolving.{as_pools}
-use Rattle.dial9_trace_format.proofs.ResolvingLemmas.{key_unresolved, value_cause, item_unresolved, item_known}
-use Rattle.dial9_trace_format.proofs.ResolvingLemmas.{items_known, pair_known, pairs_known}
+use Rattle.dial9_trace_format.proofs.ValuesResolved.{key_unresolved, value_cause, item_unresolved, item_known}
+use Rattle.dial9_trace_format.proofs.ValuesResolved.{items_known, pair_known, pairs_known}
 use Rattle.trace_lines.proofs.Depths.{item_in, key_in, value_in, most_below, most_pair_below}
 use Rattle.trace_lines.proofs.value.+knowing.Goals as goal
 

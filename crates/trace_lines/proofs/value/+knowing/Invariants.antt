@@ -1,7 +1,7 @@
 use Rattle.std.proofs.Common.{◌≡◌, ◌+◌, ◌*◌, drop}
 use denote.Param.Weighed.{most}
 use Rattle.dial9_trace_format.specs.parts.Resolving.{as_pools}
-use Rattle.dial9_trace_format.proofs.ResolvingLemmas.{unknown_of_items, unknown_of_pairs}
+use Rattle.dial9_trace_format.proofs.ValuesResolved.{unknown_of_items, unknown_of_pairs}
 use Rattle.trace_lines.proofs.Depths.{pair_depth}
 use Rattle.trace_lines.proofs.value.+knowing.Given as goal
 

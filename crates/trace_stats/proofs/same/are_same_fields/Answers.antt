@@ -2,7 +2,7 @@ use Rattle.std.proofs.Common.{refl, arith}
 use Rattle.std.specs.Cmp.Lexicographic.{pointwise}
 use Rattle.trace_values.proofs.CompareLoops.{same_so_far, one_differs, all_same}
 use Rattle.trace_wire.specs.Schemas.{same_field}
-use Rattle.trace_stats.proofs.SameLemmas.{fields_apart}
+use Rattle.trace_stats.proofs.TextsByTheirEnds.{fields_apart}
 use Rattle.trace_stats.proofs.same.are_same_fields.Goals as goal
 
 pub returns-then-one-other : goal.returns-then-one-other

@@ -1,5 +1,5 @@
 use Rattle.std.proofs.Common.{arith}
-use Rattle.trace_stats.proofs.SameLemmas.{word_is, word_bytes}
+use Rattle.trace_stats.proofs.TextsByTheirEnds.{word_is, word_bytes}
 use Rattle.trace_stats.proofs.same.first_word.Goals as goal
 
 pub returns-clause-number : goal.returns-clause-number

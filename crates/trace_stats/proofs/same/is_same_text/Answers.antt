@@ -1,4 +1,4 @@
-use Rattle.trace_stats.proofs.SameLemmas.{last_tells}
+use Rattle.trace_stats.proofs.TextsByTheirEnds.{last_tells}
 use Rattle.trace_stats.proofs.same.is_same_text.Goals as goal
 
 pub returns : goal.returns

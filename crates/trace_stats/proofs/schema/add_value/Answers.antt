@@ -1,6 +1,6 @@
 use Rattle.std.proofs.Common.{refl}
 use Rattle.dial9_trace_format.specs.ShownEvents.{shown_event}
-use Rattle.trace_stats.proofs.SchemaLemmas.{one_added, value_in}
+use Rattle.trace_stats.proofs.EventAddedToSchema.{one_added, value_in}
 use Rattle.trace_stats.proofs.schema.add_value.Goals as goal
 
 pub returns-in-Some-clause-added : goal.returns-in-Some-clause-added

@@ -1,5 +1,5 @@
 use Rattle.dial9_trace_format.specs.ShownEvents.{shown_event}
-use Rattle.trace_stats.proofs.SchemaLemmas.{AddedBelow}
+use Rattle.trace_stats.proofs.EventAddedToSchema.{AddedBelow}
 use Rattle.trace_stats.proofs.schema.add_values.Given as goal
 
 abbrev pub invariant-fields : goal.invariant-fields

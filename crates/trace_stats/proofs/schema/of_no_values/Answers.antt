@@ -1,6 +1,6 @@
 use Rattle.std.proofs.Common.{◌++◌, ◌∷◌, [], ap, ◌∙◌, List}
 use Rattle.trace_stats.specs.declared.field.FieldStats.{FieldStats}
-use Rattle.trace_stats.proofs.SchemaLemmas.{none_made, one_made}
+use Rattle.trace_stats.proofs.EventAddedToSchema.{none_made, one_made}
 use Rattle.trace_stats.proofs.schema.of_no_values.Goals as goal
 
 pub fields-init : goal.fields-init

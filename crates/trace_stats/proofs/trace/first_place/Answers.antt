@@ -1,5 +1,5 @@
 use Rattle.std.proofs.Common.{◌≤◌, length, arith}
-use Rattle.trace_stats.proofs.TraceLemmas.{none_first, none_next, none_of_all}
+use Rattle.trace_stats.proofs.EventAddedToTrace.{none_first, none_next, none_of_all}
 use Rattle.trace_stats.proofs.trace.first_place.Goals as goal
 
 pub places-init : goal.places-init

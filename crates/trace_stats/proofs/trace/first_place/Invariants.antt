@@ -1,4 +1,4 @@
-use Rattle.trace_stats.proofs.TraceLemmas.{NoneBelow}
+use Rattle.trace_stats.proofs.EventAddedToTrace.{NoneBelow}
 use Rattle.trace_stats.proofs.trace.first_place.Given as goal
 
 abbrev pub invariant-places : goal.invariant-places

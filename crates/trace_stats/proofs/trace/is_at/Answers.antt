@@ -1,4 +1,4 @@
-use Rattle.trace_stats.proofs.TraceLemmas.{place_found, no_place}
+use Rattle.trace_stats.proofs.EventAddedToTrace.{place_found, no_place}
 use Rattle.trace_stats.proofs.trace.is_at.Goals as goal
 
 pub returns-clause-there : goal.returns-clause-there

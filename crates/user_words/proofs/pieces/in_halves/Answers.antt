@@ -1,7 +1,7 @@
 use Rattle.std.proofs.Common.{ap}
 use Rattle.std.proofs.lemmas.Result.{err_from_is_err_and}
 use Rattle.dial9_trace_format.specs.Words.{Fed}
-use Rattle.user_words.proofs.HalvesLemmas.{as_whole, refuses_first, refuses_second}
+use Rattle.user_words.proofs.TwoPiecesAsWhole.{as_whole, refuses_first, refuses_second}
 use Rattle.user_words.proofs.pieces.in_halves.Goals as goal
 
 pub returns-in_err-front-clause-refused : goal.returns-in_err-front-clause-refused

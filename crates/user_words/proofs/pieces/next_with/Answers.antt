@@ -1,4 +1,4 @@
-use Rattle.user_words.proofs.HalvesLemmas.{fed_alike, pulled_after, refused_after}
+use Rattle.user_words.proofs.TwoPiecesAsWhole.{fed_alike, pulled_after, refused_after}
 use Rattle.user_words.proofs.pieces.next_with.Goals as goal
 
 pub returns-clause-next : goal.returns-clause-next

@@ -1,5 +1,5 @@
 use Rattle.std.proofs.Common.{◌<◌, ◌≤◌, length, rules}
-use Rattle.trace_chrome.proofs.FrameLemmas.{one_put}
+use Rattle.trace_chrome.proofs.FramesAsMembers.{one_put}
 use Rattle.trace_chrome.proofs.frames.Frames.put_stack.Goals as goal
 
 pub addresses-preserved : goal.addresses-preserved

@@ -1,4 +1,4 @@
-use Rattle.trace_cuts.proofs.CutLemmas.{went_on, all_copied, conflict_copied}
+use Rattle.trace_cuts.proofs.OneFrameCopied.{went_on, all_copied, conflict_copied}
 use Rattle.trace_cuts.proofs.copying.Copying.copy_all.Goals as goal
 
 pub frames-init : goal.frames-init

@@ -1,5 +1,5 @@
 use Rattle.std.proofs.Common.{length}
-use Rattle.trace_cuts.proofs.CutLemmas.{CopiedFrom}
+use Rattle.trace_cuts.proofs.OneFrameCopied.{CopiedFrom}
 use Rattle.trace_cuts.proofs.copying.Copying.copy_all.Given as goal
 
 abbrev pub invariant-frames : goal.invariant-frames

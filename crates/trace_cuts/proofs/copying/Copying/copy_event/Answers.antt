@@ -1,5 +1,5 @@
 use Rattle.std.proofs.Common.{refl, sym, ◌∙◌}
-use Rattle.trace_cuts.proofs.CutLemmas.{event_shorter, event_copied, event_passed}
+use Rattle.trace_cuts.proofs.OneFrameCopied.{event_shorter, event_copied, event_passed}
 use Rattle.trace_cuts.proofs.copying.Copying.copy_event.Goals as goal
 
 pub keep_event-requires : goal.keep_event-requires

@@ -1,7 +1,7 @@
 use Rattle.std.proofs.Common.{◌∷◌, refl, map as list_map}
 use Rattle.trace_values.specs.ValueViews.{view}
 use Rattle.trace_wire.specs.FrameTags.{event_tag}
-use Rattle.trace_cuts.proofs.CutLemmas.{none_shown, event_there}
+use Rattle.trace_cuts.proofs.OneFrameCopied.{none_shown, event_there}
 use Rattle.trace_cuts.proofs.copying.Copying.copy_event_at.Goals as goal
 
 pub copy_event-requires : goal.copy_event-requires

@@ -1,5 +1,5 @@
 use Rattle.std.proofs.Common.{refl}
-use Rattle.trace_cuts.proofs.CutLemmas.{hidden_shorter, header_copied, reset_passed}
+use Rattle.trace_cuts.proofs.OneFrameCopied.{hidden_shorter, header_copied, reset_passed}
 use Rattle.trace_cuts.proofs.copying.Copying.copy_hidden.Goals as goal
 
 pub keep-requires : goal.keep-requires

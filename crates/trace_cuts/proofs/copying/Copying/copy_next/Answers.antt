@@ -1,4 +1,4 @@
-use Rattle.trace_cuts.proofs.CutLemmas.{none_begins}
+use Rattle.trace_cuts.proofs.OneFrameCopied.{none_begins}
 use Rattle.trace_cuts.proofs.copying.Copying.copy_next.Goals as goal
 
 pub returns-in-Nothing : goal.returns-in-Nothing

@@ -1,7 +1,7 @@
 use Rattle.std.proofs.Common.{refl}
 use Rattle.trace_wire.specs.PoolEntries.{string_ref_of, stack_ref_of}
 use Rattle.trace_wire.specs.parts.FrameViews.{frame_by}
-use Rattle.trace_cuts.proofs.CutLemmas.{other_shorter, other_copied, other_conflicts}
+use Rattle.trace_cuts.proofs.OneFrameCopied.{other_shorter, other_copied, other_conflicts}
 use Rattle.trace_cuts.proofs.copying.Copying.copy_other.Goals as goal
 
 pub keep-requires : goal.keep-requires

@@ -1,7 +1,7 @@
 use Rattle.std.proofs.Common.{◌∷◌}
 use Rattle.trace_values.specs.Values.{owned_reader}
 use Rattle.trace_wire.specs.parts.codec.HiddenFrames.{other_tag}
-use Rattle.trace_cuts.proofs.CutLemmas.{none_shown, tag_is_shown}
+use Rattle.trace_cuts.proofs.OneFrameCopied.{none_shown, tag_is_shown}
 use Rattle.trace_cuts.proofs.copying.Copying.copy_other_at.Goals as goal
 
 pub returns-in-Err-Unread : goal.returns-in-Err-Unread

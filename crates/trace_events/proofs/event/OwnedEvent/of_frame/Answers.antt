@@ -1,4 +1,4 @@
-use Rattle.trace_events.proofs.FrameLemmas.{frame_event, frame_no_event}
+use Rattle.trace_events.proofs.EventOfFrame.{frame_event, frame_no_event}
 use Rattle.trace_events.proofs.event.OwnedEvent.of_frame.Goals as goal
 
 pub returns-in-Some-clause-event : goal.returns-in-Some-clause-event

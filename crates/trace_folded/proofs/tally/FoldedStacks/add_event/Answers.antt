@@ -1,6 +1,6 @@
 use Rattle.std.proofs.Common.{List, ℕ, Bor, option_map, sym, ap, ◌∙◌}
 use Rattle.trace_events.specs.OwnedEvents.{owned_event}
-use Rattle.trace_folded.proofs.TallyLemmas.{only_stack_of}
+use Rattle.trace_folded.proofs.OneTextMore.{only_stack_of}
 use Rattle.trace_folded.proofs.tally.FoldedStacks.add_event.Goals as goal
 
 pub returns-in-Some-clause-others : goal.returns-in-Some-clause-others

@@ -1,6 +1,6 @@
 use Rattle.std.proofs.Common.{string_bytes}
 use Rattle.std.proofs.lemmas.Map.Text.{btree_map_updates_text}
-use Rattle.trace_folded.proofs.TallyLemmas.{sets_count, puts_no_other}
+use Rattle.trace_folded.proofs.OneTextMore.{sets_count, puts_no_other}
 use Rattle.trace_folded.proofs.tally.FoldedStacks.put.Goals as goal
 
 pub returns-clause-put : goal.returns-clause-put

@@ -1,6 +1,6 @@
-use Rattle.trace_stats.proofs.FieldLemmas.{natural_added, negative_added, float_added, length_added}
-use Rattle.trace_stats.proofs.FieldLemmas.{by_measure}
-use Rattle.trace_stats.proofs.FieldLemmas.{naturals_full, negatives_full, floats_full, lengths_full}
+use Rattle.trace_stats.proofs.ValueAddedToField.{natural_added, negative_added, float_added, length_added}
+use Rattle.trace_stats.proofs.ValueAddedToField.{by_measure}
+use Rattle.trace_stats.proofs.ValueAddedToField.{naturals_full, negatives_full, floats_full, lengths_full}
 use Rattle.trace_stats.proofs.field.FieldStats.add.Goals as goal
 
 pub returns-in-Natural-clause-added : goal.returns-in-Natural-clause-added

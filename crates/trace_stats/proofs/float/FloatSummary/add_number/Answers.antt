@@ -1,6 +1,6 @@
 use Rattle.std.proofs.Common.{◌≡◌, ◌+◌, ◌≤◌, refl, rules}
 use Rattle.trace_stats.specs.Summaries.{most_counted}
-use Rattle.trace_stats.proofs.FloatLemmas.{number_more, numbers_full}
+use Rattle.trace_stats.proofs.FloatAddedToSummary.{number_more, numbers_full}
 use Rattle.trace_stats.proofs.float.FloatSummary.add_number.Goals as goal
 
 pub returns-in_default-clause-full : goal.returns-in_default-clause-full

@@ -1,7 +1,7 @@
 use Rattle.std.proofs.Common.{refl}
 use Rattle.dial9_trace_format.specs.ShownEvents.{shown_event}
 use Rattle.trace_stats.specs.Events.{counted_event}
-use Rattle.trace_stats.proofs.SchemaLemmas.{event_added}
+use Rattle.trace_stats.proofs.EventAddedToSchema.{event_added}
 use Rattle.trace_stats.proofs.schema.SchemaStats.add.Goals as goal
 
 pub returns-clause-added : goal.returns-clause-added

@@ -1,6 +1,6 @@
 use Rattle.std.proofs.Common.{refl}
 use Rattle.trace_events.specs.OwnedEvents.{owned_event}
-use Rattle.trace_stats.proofs.SchemaLemmas.{one_added, owned_value_in}
+use Rattle.trace_stats.proofs.EventAddedToSchema.{one_added, owned_value_in}
 use Rattle.trace_stats.proofs.schema.owned.add_owned_value.Goals as goal
 
 pub returns-in-Some-clause-added : goal.returns-in-Some-clause-added

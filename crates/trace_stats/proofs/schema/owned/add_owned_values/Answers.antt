@@ -1,6 +1,6 @@
 use Rattle.std.proofs.Common.{◌≡◌, ◌<◌, ◌≤◌, length, arith, rules}
 use Rattle.std.proofs.lemmas.Result.{err_from_is_err_and}
-use Rattle.trace_stats.proofs.SchemaLemmas.{none_below, one_below, all_added, fields_full}
+use Rattle.trace_stats.proofs.EventAddedToSchema.{none_below, one_below, all_added, fields_full}
 use Rattle.trace_stats.proofs.schema.owned.add_owned_values.Goals as goal
 
 pub fields-init : goal.fields-init

@@ -1,5 +1,5 @@
 use Rattle.trace_events.specs.OwnedEvents.{owned_event}
-use Rattle.trace_stats.proofs.SchemaLemmas.{AddedBelow}
+use Rattle.trace_stats.proofs.EventAddedToSchema.{AddedBelow}
 use Rattle.trace_stats.proofs.schema.owned.add_owned_values.Given as goal
 
 abbrev pub invariant-fields : goal.invariant-fields

@@ -3,7 +3,7 @@ use Rattle.std.specs.Vec.{with_item}
 use Rattle.trace_events.specs.OwnedEvents.{owned_event}
 use Rattle.trace_stats.specs.Events.{counted_event}
 use Rattle.trace_stats.specs.declared.trace.TraceStats.{TraceStats}
-use Rattle.trace_stats.proofs.TraceLemmas.{placed_inside, event_taken, event_refused}
+use Rattle.trace_stats.proofs.EventAddedToTrace.{placed_inside, event_taken, event_refused}
 use Rattle.trace_stats.proofs.trace.TraceStats.add_owned.Goals as goal
 
 pub index_mut-requires : goal.index_mut-requires

@@ -1,4 +1,4 @@
-use Rattle.trace_stats.proofs.TraceLemmas.{stats_none}
+use Rattle.trace_stats.proofs.EventAddedToTrace.{stats_none}
 use Rattle.trace_stats.proofs.trace.TraceStats.new.Goals as goal
 
 pub returns : goal.returns

@@ -1,6 +1,6 @@
 use Rattle.std.proofs.Common.{◌≡◌, List, [], ◌∷◌, ◌++◌, length, ap, ◌∙◌, rules}
 use Rattle.trace_stats.specs.declared.schema.SchemaStats.{SchemaStats}
-use Rattle.trace_stats.proofs.TraceLemmas.{placed_last}
+use Rattle.trace_stats.proofs.EventAddedToTrace.{placed_last}
 use Rattle.trace_stats.proofs.trace.TraceStats.put_last.Goals as goal
 
 pub returns-clause-placed : goal.returns-clause-placed
