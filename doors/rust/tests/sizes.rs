@@ -67,7 +67,7 @@ fn stacks_and_lists_of_each_size() -> Result<(), Error> {
 #[test]
 fn large_values() -> Result<(), Error> {
     let length = HEADER + SCHEMA + EVENT + 4;
-    for size in [4_096, 4_097, 65_535, 65_536, 1_000_001] {
+    for size in [4_096, 4_097, 65_535, 65_536, 1_000_000] {
         let (text, stack) = ("x".repeat(size), vec![7; size]);
         let wanted = vec![ReadValue::Text(text.clone())];
         assert_eq!(recorded(FieldType::String, Value::Text(&text), length + size)?, wanted);
