@@ -175,16 +175,35 @@ static void long_names(void) {
     expect(*trace_take(&c, 1) == 2, "the event");
 }
 
+/* A value of an annotation that two bytes do not count comes back. */
+static void long_annotation(void) {
+    static uint8_t room[80000], trace[80000];
+    static char value[70001];
+    trace_report report;
+    memset(value, 'v', 70000);
+    trace_batch b = {room, sizeof room, 0};
+    trace_schema(&b, 1, "A", 0);
+    trace_annotations(&b, 1);
+    trace_annotation(&b, 65535, "k", value);
+    expect(b.length == 1 + 2 + 3 + 2 + 2 + 2 + 3 + 4 + 70000, "a long annotation");
+    expect(trace_record(b.bytes, b.length, trace, sizeof trace, &report) == TRACE_DONE, "it is recorded");
+    size_t length = report.length;
+    expect(length > 70000 && !memcmp(trace + length - 70000, value, 70000), "its value");
+}
+
 /* A batch that has too little room tells what it needs, and no byte after the room is touched. */
 static void too_little_room(void) {
     uint8_t room[1000];
     trace_batch whole = {room, sizeof room, 0};
     poll(&whole);
-    for (size_t size = 0; size < whole.length; size++) {
+    uint8_t wanted[1000];
+    memcpy(wanted, room, sizeof room);
+    for (size_t size = 0; size <= whole.length; size++) {
         memset(room, 0xa5, sizeof room);
         trace_batch b = {room, size, 0};
         poll(&b);
         expect(b.length == whole.length, "what is needed");
+        expect(size < whole.length || !memcmp(room, wanted, size), "room that is exactly enough");
         for (size_t k = size; k < sizeof room; k++)
             expect(room[k] == 0xa5, "a byte after the room");
     }
@@ -193,6 +212,7 @@ static void too_little_room(void) {
 int main(void) {
     each_type();
     long_names();
+    long_annotation();
     too_little_room();
     uint8_t room[1000], trace[1000], lines[2000];
     trace_report report;

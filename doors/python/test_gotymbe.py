@@ -318,6 +318,20 @@ class Doors(unittest.TestCase):
         self.assertEqual([(it.name, it.time, it.values) for it in gotymbe.read(record(events))],
                          [(schema.name, time, {schema.fields[0][0]: row[0]}) for schema, time, row in events])
 
+    def test_schemas_that_are_not_kept(self):
+        """Of schemas that nothing else holds each is told by its own name, though one may come to lie where another
+        lay."""
+        trace = record((Schema(f"S{n}", []), n, []) for n in range(300))
+        self.assertEqual([(it.name, it.time) for it in gotymbe.read(trace)], [(f"S{n}", n) for n in range(300)])
+
+    def test_cleared(self):
+        batch, first, second = Batch(), Schema("A", [("a", U8)]), Schema("A", [])
+        for _ in range(2):
+            batch.add(first, 1, [7])
+            self.assertEqual((batch.events, batch.takes(first), batch.takes(second)), (1, True, False))
+            batch.clear()
+            self.assertEqual((batch.events, batch.takes(second), batch.bytes()), (0, True, b""))
+
     def test_where_a_trace_is_torn(self):
         """The place counts from the beginning of the trace, by whatever number of events it is read."""
         torn = record([(Schema("A", [("n", VARINT)]), n, [n]) for n in range(50)]) + b"\x02\0\x01\0"

@@ -3,7 +3,7 @@
 use crate::door::record_batch;
 use crate::error::Error;
 use std::collections::{HashMap, HashSet};
-use std::io::Write;
+use std::io::{self, ErrorKind, Write};
 
 /// The types of fields (docs/FORMAT.md, "Field types").
 #[derive(Clone, Copy, Debug, PartialEq, Eq, Hash)]
@@ -260,12 +260,15 @@ impl Batch {
 /// A recorder over any writer: it gathers events, and sends each full batch as a trace of its own. What it wrote is one
 /// trace after another, which readers take for one. A second schema of a name begins another batch.
 ///
-/// Events that were gathered and not sent are lost where the recorder is dropped: call [`Recorder::finish`].
+/// Events that were gathered and not sent are lost where the recorder is dropped: call [`Recorder::finish`]. Where the
+/// writer fails, the last trace may be cut, and a reader would take what stands after it for its rest. So nothing more
+/// is written then, and each later call that would write is an [`Error::Write`] of the same kind.
 #[derive(Debug)]
 pub struct Recorder<W: Write> {
     out: W,
     batch: Batch,
     most: usize,
+    failed: Option<ErrorKind>,
 }
 
 impl<W: Write> Recorder<W> {
@@ -276,7 +279,7 @@ impl<W: Write> Recorder<W> {
 
     /// A recorder that sends a batch once it has so many bytes.
     pub fn with_batches(out: W, most: usize) -> Recorder<W> {
-        Recorder { out, batch: Batch::new(), most }
+        Recorder { out, batch: Batch::new(), most, failed: None }
     }
 
     /// Records an event of the schema, at a time in nanoseconds. Where a batch is sent with it, or before it, and
@@ -305,7 +308,8 @@ impl<W: Write> Recorder<W> {
     /// Sends what was gathered, and flushes the writer.
     pub fn flush(&mut self) -> Result<(), Error> {
         self.send()?;
-        Ok(self.out.flush()?)
+        let flushed = self.works().and_then(|()| self.out.flush());
+        self.written(flushed)
     }
 
     /// Sends what was gathered, and answers the writer.
@@ -320,7 +324,22 @@ impl<W: Write> Recorder<W> {
         }
         let trace = record_batch(self.batch.as_bytes());
         self.batch.clear();
-        Ok(self.out.write_all(&trace?)?)
+        let trace = trace?;
+        let written = self.works().and_then(|()| self.out.write_all(&trace));
+        self.written(written)
+    }
+
+    // The error of a writer that failed before.
+    fn works(&self) -> io::Result<()> {
+        match self.failed {
+            Some(kind) => Err(io::Error::new(kind, "it failed before")),
+            None => Ok(()),
+        }
+    }
+
+    fn written(&mut self, done: io::Result<()>) -> Result<(), Error> {
+        self.failed = done.as_ref().err().map(io::Error::kind);
+        Ok(done?)
     }
 }
 

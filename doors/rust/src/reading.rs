@@ -52,7 +52,7 @@ impl Event {
         self.schema.name()
     }
 
-    /// The value of the field with this name.
+    /// The value of the first field with this name.
     pub fn get(&self, name: &str) -> Option<&ReadValue> {
         let index = self.schema.field_names().position(|field| field == name)?;
         self.values.get(index)

@@ -193,6 +193,128 @@ fn flushed_and_refused_batches() -> Result<(), Error> {
     Ok(())
 }
 
+// The writer is flushed also where nothing was gathered: what was sent before may wait in it.
+#[test]
+fn flushed_without_events() -> Result<(), Error> {
+    let tick = Schema::new("Tick");
+    let mut recorder = Recorder::with_batches(Flushed::default(), 1);
+    recorder.event(&tick, 1, &[])?;
+    recorder.flush()?;
+    recorder.flush()?;
+    assert_eq!(recorder.finish()?.flushes, 3);
+    Ok(())
+}
+
+// A writer that takes so many bytes, then fails once, and then takes all.
+struct Failing<'a> {
+    bytes: &'a mut Vec<u8>,
+    room: Option<usize>,
+    flushes: Option<usize>,
+}
+
+fn failed<T>(it: &mut Option<T>) -> std::io::Result<usize> {
+    it.take();
+    Err(std::io::ErrorKind::StorageFull.into())
+}
+
+impl Write for Failing<'_> {
+    fn write(&mut self, bytes: &[u8]) -> std::io::Result<usize> {
+        match &mut self.room {
+            Some(0) => failed(&mut self.room),
+            Some(room) => {
+                let taken = bytes.len().min(*room);
+                *room -= taken;
+                self.bytes.write(&bytes[..taken])
+            }
+            None => self.bytes.write(bytes),
+        }
+    }
+
+    fn flush(&mut self) -> std::io::Result<()> {
+        match &mut self.flushes {
+            Some(0) => failed(&mut self.flushes).map(|_| ()),
+            Some(left) => {
+                *left -= 1;
+                Ok(())
+            }
+            None => Ok(()),
+        }
+    }
+}
+
+fn is_full(done: Result<(), Error>) -> bool {
+    matches!(done, Err(Error::Write(error)) if error.kind() == std::io::ErrorKind::StorageFull)
+}
+
+// A writer that fails at each byte is told, and nothing is written after what it took: that is a front of the traces.
+#[test]
+fn writers_that_fail() -> Result<(), Error> {
+    let tick = Schema::new("Tick").field("n", FieldType::Varint);
+    let mut whole = Recorder::with_batches(Vec::new(), 1);
+    for n in 0..3 {
+        whole.event(&tick, n, &[Value::Number(n)])?;
+    }
+    let whole = whole.finish()?;
+    let one = whole.len() / 3;
+    for room in 0..whole.len() {
+        let mut bytes = Vec::new();
+        let out = Failing { bytes: &mut bytes, room: Some(room), flushes: None };
+        let mut recorder = Recorder::with_batches(out, 1);
+        for n in 0..3 {
+            let done = recorder.event(&tick, n, &[Value::Number(n)]);
+            assert!(if room < one * (n as usize + 1) { is_full(done) } else { done.is_ok() });
+        }
+        assert!(is_full(recorder.flush()) && is_full(recorder.finish().map(|_| ())));
+        assert_eq!(bytes, whole[..room]);
+    }
+    for left in 0..3 {
+        let mut bytes = Vec::new();
+        let mut recorder = Recorder::new(Failing { bytes: &mut bytes, room: None, flushes: Some(left) });
+        for at in 0..3 {
+            recorder.event(&tick, 1, &[Value::Number(7)])?;
+            assert_eq!(is_full(recorder.flush()), at >= left);
+        }
+        assert!(is_full(recorder.finish().map(|_| ())));
+        assert_eq!(events(&bytes)?.count(), left + 1);
+    }
+    Ok(())
+}
+
+// A batch that is cleared is as a new one.
+#[test]
+fn batches_that_are_cleared() -> Result<(), Error> {
+    let (first, second) = (Schema::new("A").field("a", FieldType::U8), Schema::new("A"));
+    let mut batch = Batch::new();
+    for _ in 0..2 {
+        batch.event(&first, 1, &[Value::Number(7)]);
+        assert_eq!((batch.events(), batch.takes(&first), batch.takes(&second)), (1, true, false));
+        batch.clear();
+        assert_eq!((batch.events(), batch.takes(&second), batch.as_bytes()), (0, true, &[][..]));
+    }
+    Ok(())
+}
+
+// Annotations of each field of many, and of fields of one name the first.
+#[test]
+fn many_fields() -> Result<(), Error> {
+    let mut many = Schema::new("Many");
+    for at in 0..300 {
+        many = many.field(if at < 2 { "it" } else { "other" }, FieldType::Varint).annotated("at", &at.to_string());
+    }
+    let values: Vec<_> = (0..300).map(Value::Number).collect();
+    let mut recorder = Recorder::new(Vec::new());
+    recorder.event(&many, 1, &values)?;
+    let trace = recorder.finish()?;
+    let read = events(&trace)?.next().expect("an event");
+    assert_eq!(read.get("it"), Some(&ReadValue::Number(0)));
+    assert_eq!(read.get("none"), None);
+    for (at, (field, key, value)) in read.schema.annotations().enumerate() {
+        assert_eq!((usize::from(field), key, value), (at, "at", at.to_string().as_str()));
+    }
+    assert_eq!(read.schema.annotations().count(), 300);
+    Ok(())
+}
+
 // The status of a dump is that of `tracedump` (docs/FORMAT.md, "Dumps").
 #[test]
 fn statuses_of_dumps() -> Result<(), Error> {
@@ -203,6 +325,9 @@ fn statuses_of_dumps() -> Result<(), Error> {
     let trace = recorder.finish()?;
     assert_eq!(dump(&trace, true)?.status, 0);
     assert_eq!(dump(&trace[..trace.len() - 1], true)?.status, 2);
+    // the schema `A` without fields under the wire id 256, and then `B`
+    let conflict = b"TRC\0\x01\x01\0\x01\x01\0A\x01\0\0\x01\0\x01\x01\0B\x01\0\0";
+    assert_eq!(dump(conflict, false)?.status, 3);
     Ok(())
 }
 

@@ -1,4 +1,5 @@
-//! The Rust door with ample memory, without a gap: texts, stacks, batches and rooms of each size, events of each count.
+//! The Rust door with ample memory: texts, stacks, batches and rooms of each size, events of each count, without a gap,
+//! and large ones.
 //! How many bytes a trace has is told after docs/FORMAT.md.
 
 use gotymbe_door::{check, dump, events, read_batch, record_batch, Error, FieldType, ReadValue, Recorder, Schema, Value};
@@ -61,6 +62,27 @@ fn stacks_and_lists_of_each_size() -> Result<(), Error> {
         assert_eq!(recorded(FieldType::DynamicList, Value::List(&items), length + 2 * size)?, wanted);
     }
     Ok(())
+}
+
+#[test]
+fn large_values() -> Result<(), Error> {
+    let length = HEADER + SCHEMA + EVENT + 4;
+    for size in [4_096, 4_097, 65_535, 65_536, 1_000_000] {
+        let (text, stack) = ("x".repeat(size), vec![7; size]);
+        let wanted = vec![ReadValue::Text(text.clone())];
+        assert_eq!(recorded(FieldType::String, Value::Text(&text), length + size)?, wanted);
+        assert_eq!(recorded(FieldType::PooledString, Value::Pooled(&text), length + POOL + size)?, wanted);
+        let wanted = vec![ReadValue::Bytes(text.clone().into_bytes())];
+        assert_eq!(recorded(FieldType::Bytes, Value::Bytes(text.as_bytes()), length + size)?, wanted);
+        let wanted = vec![ReadValue::Stack(stack.clone())];
+        assert_eq!(recorded(FieldType::StackFrames, Value::Stack(&stack), length + 8 * size)?, wanted);
+        let pooled = Value::PooledStack(&stack);
+        assert_eq!(recorded(FieldType::PooledStackFrames, pooled, length + POOL + 8 * size)?, wanted);
+        let items = vec![Value::Number(7); size];
+        let wanted = vec![ReadValue::List(vec![ReadValue::Number(7); size])];
+        assert_eq!(recorded(FieldType::DynamicList, Value::List(&items), length + 2 * size)?, wanted);
+    }
+    counted(100_000, usize::MAX)
 }
 
 // So many events, in batches that are sent once they have so many bytes, are read by so many at a time.
