@@ -345,16 +345,16 @@ fn take_frame<S: FrameSink>(
     end: &mut usize,
 ) -> Result<bool, Ending> {
     let begun = decoder.version().is_some();
-    let pulled = decoder.next_frame();
+    let mut pulled = decoder.next_frame();
     if !begun {
         if let Some(version) = decoder.version() {
             sink.begin(version)?;
         }
     }
-    match pulled {
-        Ok(Some(mut frame)) => hand_on(&mut frame, decoder, sink, end),
+    match &mut pulled {
+        Ok(Some(frame)) => hand_on(frame, decoder, sink, end),
         Ok(None) => Ok(false),
-        Err(error) => Err(Ending::of_error(error)),
+        Err(error) => Err(Ending::of_error(*error)),
     }
 }
 
