@@ -17,7 +17,6 @@ use std::rt::{Clock, Files};
 use trace_events::event::OwnedEvent;
 use trace_fronts::whole::Stop;
 use trace_stats::trace::TraceStats;
-use trace_wire::codec::emptying::empty;
 
 // So many bytes at most are read at once.
 const PIECE: usize = 16_384;
@@ -352,25 +351,23 @@ fn take_frame<S: FrameSink>(
         }
     }
     match pulled {
-        Ok(Some(mut frame)) => hand_on(&mut frame, decoder, sink, end),
+        Ok(Some(frame)) => hand_on(frame, decoder, sink, end),
         Ok(None) => Ok(false),
         Err(error) => Err(Ending::of_error(error)),
     }
 }
 
 // Gives a frame to a sink, with its bytes: those after the end of the frame before it, since a reset may have come with
-// an earlier piece. Of an event the values are taken out then, in fewer steps than they are dropped by themselves.
+// an earlier piece. The decoder takes it back then, whose next event has its memory.
 fn hand_on<S: FrameSink>(
-    frame: &mut DecodedFrame,
-    decoder: &FeedDecoder,
+    frame: DecodedFrame,
+    decoder: &mut FeedDecoder,
     sink: &mut S,
     end: &mut usize,
 ) -> Result<bool, Ending> {
     let bytes = decoder.position().saturating_sub(*end) as u64;
     *end = decoder.position();
-    sink.frame(frame, decoder, bytes)?;
-    if let DecodedFrame::Event { values, .. } = frame {
-        empty(values);
-    }
+    sink.frame(&frame, decoder, bytes)?;
+    decoder.reuse(frame);
     Ok(true)
 }
