@@ -5,7 +5,7 @@ use Rattle.gotymbe_plan.proofs.moments.push_no_time.Goals as goal
 pub returns : goal.returns
 returns c =
     no_time_appended c.args.text.now (string_bytes c.args.out.now) (string_bytes c.push_str.new.self)
-    (string_bytes c.push_str-2.new.self) (string_bytes c.push_str-3.new.self) c.push_str-3.result
-    c.in_ok-push_str.ensures.bytes c.in_ok-push_str-2.ensures.bytes
-    (appended_if_ok (string_bytes c.push_str-2.new.self) (string_bytes c.push_str-3.new.self)
-    (codes "' says no time for --") c.push_str-3.result c.push_str-3.ensures.bytes)
+    (string_bytes c.push_quoted.new.out) (string_bytes c.push_str-2.new.self) c.push_str-2.result
+    c.in_ok-push_str.ensures.bytes c.in_ok-push_quoted.ensures
+    (appended_if_ok (string_bytes c.push_quoted.new.out) (string_bytes c.push_str-2.new.self)
+    (codes " says no time for --") c.push_str-2.result c.push_str-2.ensures.bytes)
