@@ -128,7 +128,8 @@ fn push_fronts(
     Ok(())
 }
 
-/// How many bytes of these lines a dump of the bytes has before its last line, if that tells that a frame ends there.
+/// How many bytes of these lines a dump of the bytes has before its last line, if that tells that a frame ends there,
+/// and the first line is not the only one: `dump_pieces` makes that with the line of the first frame.
 fn lines_before_end(
     alloc: Global,
     bytes: &[u8],
@@ -140,8 +141,16 @@ fn lines_before_end(
         return Err(AllocError);
     }
     match out.strip_suffix(END) {
-        Some(front) if lines.starts_with(front) => Ok(Some(front.len())),
+        Some(front) if has_frame(front) && lines.starts_with(front) => Ok(Some(front.len())),
         _ => Ok(None),
+    }
+}
+
+/// Whether there is a line after the first one.
+fn has_frame(lines: &[u8]) -> bool {
+    match lines.split_last() {
+        Some((_, lines)) => lines.contains(&b'\n'),
+        None => false,
     }
 }
 
