@@ -303,7 +303,10 @@ class Doors(unittest.TestCase):
         """Each raises what Python raises, and nothing of the event is in the batch."""
         for kind, value in ((POOLED_STRING, 5), (POOLED_STACK, 5), (U8, "x"), (STRING, 5), (STACK, 5), (I64, "x"),
                             (VARINT, -1), (I64, 2**63), (LIST, 5), (STRING_MAP, 5), (STRING_MAP, {"a": 5}), (BYTES, 5),
-                            (F64, "x"), (MAP, [5]), (STACK, [-1])):
+                            (F64, "x"), (MAP, [5]), (STACK, [-1]), (VARINT, 2**64), (VARINT, 2**70), (U8, 2**64),
+                            (U16, 2**64 + 5), (U32, 2**64), (optional(U32), 2**64 + 5), (optional(VARINT), -1),
+                            (LIST, [(VARINT, 2**64)]), (MAP, [((U8, 2**64), (U8, 1))]),
+                            (MAP, [((U8, 1), (U16, 2**64))])):
             batch = Batch()
             batch.add(Schema("A", [("a", U8)]), 1, [7])
             before = batch.bytes()
