@@ -201,6 +201,11 @@ class Doors(unittest.TestCase):
         self.assertEqual(refused(defined + event + b"\0\0"), (33, 1, 0))
         self.assertEqual(refused(defined + event + b"\x01\0\x0c\0\x01"), (34, 1, 0))
         self.assertEqual(refused(defined + Schema("A", []).record(2)), (32, 1, 0))
+        # a value that does not fit, and then no record: an event that names no schema, and a byte
+        misfit, unknown = event + b"\x01\0\x0c\0\x01", b"\x02\x02\0" + bytes(10)
+        self.assertEqual(refused(defined + misfit + 2 * unknown), (17, 2, 0))
+        self.assertEqual(refused(defined + misfit + defined + unknown), (17, 3, 0))
+        self.assertEqual(refused(defined + misfit + b"\x09" + unknown), (16, 2, 0))
         with self.assertRaises(TraceError) as it:
             list(gotymbe.read(record([(schema, 1, [1])])[:-1]))
         self.assertLess(it.exception.length, it.exception.place + 1)
