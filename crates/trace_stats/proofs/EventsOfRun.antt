@@ -194,6 +194,7 @@ none_counted es n s is =
 
 -- ---- the next frame
 
+-- the next frame, whose events were counted
 pub next_counted :
     {x : Option DecodedFrame} {frame : DecodedFrame} {r : Result (Unit {0}) StatsError} (old new : DecoderState)
     (s t : TraceStats) (n : ℕ) → x ≡ Some frame → n ≡ new.position - old.position → r ≡ Ok tt →
@@ -207,6 +208,7 @@ next_counted {frame = frame} old new s t n is bytes ok next counts = (
       (subst (CountsThese (list_map (λ e. counted_event e n) (EventsAt new (item_of frame))) s t) ok counts),
 )
 
+-- the next frame, whose event was refused
 pub next_refused :
     {x : Option DecodedFrame} {frame : DecodedFrame} {r : Result (Unit {0}) StatsError} (e : StatsError)
     (old new : DecoderState) (s t : TraceStats) {n : ℕ} → x ≡ Some frame → n ≡ new.position - old.position →
@@ -220,6 +222,7 @@ next_refused {frame = frame} e old new s t {n} is bytes err next counts = (
       (subst (CountsThese (list_map (λ e. counted_event e n) (EventsAt new (item_of frame))) s t) err counts),
 )
 
+-- no frame is left, and what is kept stays
 pub next_none :
     {x : Option DecodedFrame} (old new : DecoderState) (s : TraceStats) → x ≡ None →
     NextFrame owned_reader old new (next_as item_of (Ok x)) → CountsNext old new s s (Ok false)
@@ -242,6 +245,7 @@ abbrev pub Next : DecoderState → DecoderState → TraceStats → TraceStats �
 Next mid new m t r =
     (mid.failure ≡ None → CountsNext mid new m t r) × IfSome mid.failure (λ (g : Failure). FailsAgain g mid new m t r)
 
+-- before the first frame no event was counted
 pub begun :
     (o : Option Failure) (d : DecoderState) (s : TraceStats) → d.failure ≡ o → CountsSoFar o d d s s
 begun None d s e = (e, e, [], nothing_between d, keeps_none s)
@@ -255,6 +259,7 @@ gives_nothing b f old mid new m t failed same again =
     subst (λ (o : Option Failure). IfSome o (λ (g : Failure). FailsAgain g mid new m t (Ok b)))
     (ap (λ (d : DecoderState). d.failure) same ∙ failed) again
 
+-- a frame more was counted, and the loop goes on
 pub went_on :
     {x : Bool} (o : Option Failure) (old mid new : DecoderState) (s m t : TraceStats) → x ≡ true →
     CountsSoFar o old mid s m → Next mid new m t (Ok x) → CountsSoFar o old new s t
@@ -271,6 +276,7 @@ went_on {x} None old mid new s m t stood (first, works, es, events, keeps) next 
 went_on {x} (Some f) old mid new s m t stood (failed, same, kept) next = absurd
     (gives_nothing x f old mid new m t failed same next.1)
 
+-- with each frame fewer bytes are left
 pub goes_shorter :
     {x : Bool} (o : Option Failure) (old mid new : DecoderState) (s m t : TraceStats) → x ≡ true →
     CountsSoFar o old mid s m → Next mid new m t (Ok x) → length (rest_of new) < length (rest_of mid)
@@ -282,6 +288,7 @@ goes_shorter {x} None old mid new s m t stood (first, works, es, events, keeps) 
 goes_shorter {x} (Some f) old mid new s m t stood (failed, same, kept) next = absurd
     (gives_nothing x f old mid new m t failed same next.1)
 
+-- no frame is left: all were counted
 pub all_counted :
     {x : Bool} (o : Option Failure) (old mid new : DecoderState) (s m t : TraceStats) → x ≡ false →
     CountsSoFar o old mid s m → (mid.failure ≡ None → CountsNext mid new m t (Ok x)) → old.failure ≡ None →
@@ -291,6 +298,7 @@ all_counted None old mid new s m t ended (first, works, es, events, keeps) next 
     (mid, es, events, subst (KeepsMore es s) (sym same) keeps, ends)
 all_counted (Some f) old mid new s m t ended (failed, same, kept) next none = absurd cc
 
+-- the loop ends with an error: the events before it were counted
 pub stopped :
     (e : TryForEachError StatsError) (o : Option Failure) (old mid new : DecoderState) (s m t : TraceStats) →
     CountsSoFar o old mid s m → (mid.failure ≡ None → CountsNext mid new m t (Err e)) → old.failure ≡ None →
