@@ -2,6 +2,7 @@
 //! `gotymbe` counts the same by frames (`runs/stats_rows`).
 
 mod ample;
+mod runs;
 
 use crate::tests::made::fields;
 use dial9_trace_format::decoder::{Decoder, EventSink, RawEvent};
