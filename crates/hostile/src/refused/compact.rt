@@ -129,7 +129,18 @@ fn stands_at(trace: &[u8], place: usize, event: WholeEvent, values: &[u8]) -> bo
         × (values_in (drop place trace.now) event ≡ values.now)) }
 {
     match trace.get(place..) {
-        Some(rest) => rest.get(event.head..event.len) == Some(values),
+        Some(rest) => has_values(rest, event, values),
+        None => false,
+    }
+}
+
+/// Whether the bytes of the values are those of the event that stands first.
+fn has_values(bytes: &[u8], event: WholeEvent, values: &[u8]) -> bool
+    ensures { IsTrue result ↔ ((event.head ≤ event.len) × (event.len ≤ length bytes.now)
+        × (values_in bytes.now event ≡ values.now)) }
+{
+    match bytes.get(event.head..event.len) {
+        Some(found) => found == values,
         None => false,
     }
 }
