@@ -225,3 +225,31 @@ pub value_long : {X : Type 0} (bytes : X → List ℕ) (x : X × X) {v : List �
     → one_short bytes x ≡ false
 value_long bytes x value e =
     ap (λ (b : Bool). is_short (bytes x.0) && b) (ap is_short (sym value) ∙ e) ∙ and_false (is_short (bytes x.0))
+
+-- room that was made after bytes which stay
+pub record RoomMade (old made : List ℕ) (room : ℕ) : Type 0 where
+  pub long : length made ≡ length old + room
+  pub front : take (length old) made ≡ old
+
+-- bytes of any kind that were appended up to a length
+pub room_made : {old made ys : List ℕ} {end room : ℕ} → end ≡ length old + room → made ≡ take end old ++ ys
+    → length made ≡ end → RoomMade old made room
+room_made {old} {made} {ys} {end} {room} sum is len =
+    record {
+      long = len ∙ sum;
+      front = ap (take (length old)) (is ∙ ap (λ (l : List ℕ). l ++ ys) (take_all end old (omega (arith, sum))))
+          ∙ take_at old ys (length old) refl;
+    }
+
+-- the room that was made, when it is filled
+pub room_filled : {old made filled : List ℕ} {room : ℕ} → RoomMade old made room → length filled ≡ room →
+    put_mid (length old) (length made - length old) made filled ≡ old ++ filled
+room_filled {old} {made} {filled} {room} here len =
+    let start = length old in
+    let k = length made - start in
+    let whole = put_mid start k made filled in
+    let long : length whole ≡ length made = same_len_mid start k made filled
+    (omega (arith, here.long, len, length-take k (drop start made), length-drop start made)) in
+    sym (take_all (start + length filled) whole (omega (arith, long, here.long, len)))
+    ∙ take-put_mid start k made filled (start + length filled) refl (omega (arith, here.long))
+    ∙ ap (λ (l : List ℕ). l ++ filled) here.front
