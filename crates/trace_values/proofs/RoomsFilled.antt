@@ -5,16 +5,20 @@ use Rattle.std.proofs.lemmas.List.{take-append-le, take-take, length-append, len
 use Rattle.std.proofs.Common.{ap₂}
 use Rattle.std.specs.List.{flat_map, list_all}
 use Rattle.std.proofs.lemmas.List.Folds.{list_all-map, list_all_at, list_all_more}
-use Rattle.std.proofs.Common.{◌⊎◌, inl, inr}
-use Rattle.std.proofs.lemmas.List.{take_all}
+use Rattle.std.proofs.Common.{◌⊎◌, inl, inr, Ok}
+use Rattle.std.proofs.Common.{Vec, Global}
+use Rattle.std.proofs.lemmas.List.{take_all, length-map}
+use Rattle.trace_values.specs.ValueViews.{text_pairs_view}
 use Rattle.std.proofs.Common.{length-take}
 use Rattle.std.proofs.lemmas.Slice.{take-put_mid, drop-put_mid}
 use borrow.Rule.Slice.PartMut.{put_mid, same_len_mid}
 use Rattle.std.proofs.lemmas.Bool.{and_parts, false_from_ne_true}
 use Rattle.std.proofs.lemmas.List.Folds.{flat_map-map, length-flat_map-take}
-use Rattle.trace_values.specs.Values.{counted, text_pair, u32}
+use Rattle.trace_values.specs.Values.{counted, text_pair, u32, texts}
+use Rattle.trace_values.specs.Encoding.{AppendsIf}
+use Rattle.trace_values.proofs.TestedItems.{too_many, not_many}
 use Rattle.trace_values.specs.Limits.{most_items}
-use Rattle.trace_values.specs.Spelling.{is_short, are_short_pairs}
+use Rattle.trace_values.specs.Spelling.{is_short, are_short_pairs, texts_fit, own_spelling}
 use Rattle.trace_values.proofs.SpellingIsRead.{is_short-true}
 use Rattle.trace_values.proofs.ShortPairs.{first_tested, none_to_test, all_short, one_short}
 use Rattle.trace_values.proofs.AppendedInPieces.{pair_appended}
@@ -232,9 +236,9 @@ pub record RoomMade (old made : List ℕ) (room : ℕ) : Type 0 where
   pub front : take (length old) made ≡ old
 
 -- bytes of any kind that were appended up to a length
-pub room_made : {old made ys : List ℕ} {end room : ℕ} → end ≡ length old + room → made ≡ take end old ++ ys
+pub room_made : {old made : List ℕ} (ys : List ℕ) {end room : ℕ} → end ≡ length old + room → made ≡ take end old ++ ys
     → length made ≡ end → RoomMade old made room
-room_made {old} {made} {ys} {end} {room} sum is len =
+room_made {old} {made} ys {end} {room} sum is len =
     record {
       long = len ∙ sum;
       front = ap (take (length old)) (is ∙ ap (λ (l : List ℕ). l ++ ys) (take_all end old (omega (arith, sum))))
@@ -242,9 +246,9 @@ room_made {old} {made} {ys} {end} {room} sum is len =
     }
 
 -- the room that was made, when it is filled
-pub room_filled : {old made filled : List ℕ} {room : ℕ} → RoomMade old made room → length filled ≡ room →
+pub room_filled : {old made : List ℕ} (filled : List ℕ) {room : ℕ} → RoomMade old made room → length filled ≡ room →
     put_mid (length old) (length made - length old) made filled ≡ old ++ filled
-room_filled {old} {made} {filled} {room} here len =
+room_filled {old} {made} filled {room} here len =
     let start = length old in
     let k = length made - start in
     let whole = put_mid start k made filled in
@@ -253,3 +257,63 @@ room_filled {old} {made} {filled} {room} here len =
     sym (take_all (start + length filled) whole (omega (arith, long, here.long, len)))
     ∙ take-put_mid start k made filled (start + length filled) refl (omega (arith, here.long))
     ∙ ap (λ (l : List ℕ). l ++ filled) here.front
+
+-- more pairs than the most are refused
+pub many_refused : (ps : List (List ℕ × List ℕ)) (n : ℕ) (old : List ℕ) → length ps ≡ n → most_items < n →
+    AppendsIf (texts_fit ps) (own_spelling (texts ps)) old old (Ok false)
+many_refused ps n old same h = (too_many n (length ps) (are_short_pairs ps) same h, refl)
+
+-- and so are pairs whose room cannot be told
+pub untold_refused : (ps qs : List (List ℕ × List ℕ)) (n : ℕ) (old : List ℕ) → qs ≡ ps → length ps ≡ n
+    → n ≤ most_items → (are_short_pairs qs ≡ false) ⊎ (2 ^ 64 ≤ length (flat_map text_pair qs)) →
+    AppendsIf (texts_fit ps) (own_spelling (texts ps)) old old (Ok false)
+untold_refused ps qs n old as_given same h none =
+    let told = none_told qs (omega (arith, ap length as_given, same, h)) none in
+    (not_many n (length ps) (are_short_pairs ps) same h ∙ ap are_short_pairs (sym as_given) ∙ told, refl)
+
+-- pairs whose room is told fit
+pub told_fit : (ps : List (List ℕ × List ℕ)) (n : ℕ) → length ps ≡ n → n ≤ most_items → are_short_pairs ps ≡ true →
+    texts_fit ps ≡ true
+told_fit ps n same h short = not_many n (length ps) (are_short_pairs ps) same h ∙ short
+
+-- their count was appended, and then all of them
+pub told_pushed : (ps : List (List ℕ × List ℕ)) (n : ℕ) (old mid new : List ℕ) → length ps ≡ n
+    → mid ≡ old ++ u32 n → new ≡ mid ++ flat_map text_pair ps → new ≡ old ++ own_spelling (texts ps)
+told_pushed ps n old mid new same count all =
+    all ∙ ap (λ (l : List ℕ). l ++ flat_map text_pair ps) (count ∙ ap (λ (m : ℕ). old ++ u32 m) (sym same))
+    ∙ append_assoc old (u32 (length ps)) (flat_map text_pair ps)
+
+-- a key that is still to be put ends within the room
+pub key_within : {X : Type 0} (seen : X → List ℕ × List ℕ) (xs : List X) (i : ℕ) {x : X} {k room : List ℕ}
+    {at total : ℕ} → i < length xs → x ≡ get_or xs i x → k ≡ (seen x).0 → total ≡ length (spelled seen xs)
+    → FilledTo room (spelled seen (take i xs)) at total →
+    at + length (counted k) ≤ length room
+key_within seen xs i {x} {k} lt is key sum filled =
+    omega (arith, one_within seen xs i {x} {k} {(seen x).1} lt is key refl, filled.place, filled.long, sum)
+
+-- and so does its value
+pub value_within : {X : Type 0} (seen : X → List ℕ × List ℕ) (xs : List X) (i : ℕ) {x : X} {k v old mid : List ℕ}
+    {at middle total : ℕ} → i < length xs → x ≡ get_or xs i x → k ≡ (seen x).0 → v ≡ (seen x).1
+    → total ≡ length (spelled seen xs) → FilledTo old (spelled seen (take i xs)) at total
+    → PutCounted old mid k at middle →
+    middle + length (counted v) ≤ length mid
+value_within seen xs i {x} {k} {v} {old} {mid} {at} {middle} {total} lt is key value sum filled put =
+    let within = one_within seen xs i lt is key value in
+    let half = one_put filled put (omega (arith, within, filled.place, sum)) in
+    omega (arith, within, filled.place, put.ends, half.long, sum)
+
+-- how much a pair takes whose room is told
+pub sum_within : {k v : List ℕ} {key value : ℕ} → TextTold k key → TextTold v value → key + value ≤ 8589934598
+sum_within {k} {v} tk tv = omega (arith, short_within k tk.0, short_within v tv.0, tk.1, tv.1)
+
+-- the room of all takes no less than that of a pair and of those before it
+pub room_within : {X : Type 0} (bytes : X → List ℕ) (xs : List (X × X)) (i : ℕ) {x : X × X} {k v : List ℕ}
+    {room key value : ℕ} → i < length xs → x ≡ get_or xs i x → k ≡ bytes x.0 → v ≡ bytes x.1
+    → TextTold k key → TextTold v value → RoomTold bytes xs i room →
+    room + (key + value) ≤ length (spelled (λ p. (bytes p.0, bytes p.1)) xs)
+room_within bytes xs i lt is ek ev tk tv told =
+    omega (arith, one_within (λ p. (bytes p.0, bytes p.1)) xs i lt is ek ev, told.taken, tk.1, tv.1)
+
+-- as many pairs are seen as there are
+pub as_many : (ps : List (Vec ℕ Global × Vec ℕ Global)) → length (text_pairs_view ps) ≡ length ps
+as_many ps = length-map ps _
