@@ -1,37 +1,22 @@
 -- Room that is filled from its front on, and how much of it texts take.
-use Rattle.std.proofs.Common.{◌≡◌, ℕ, ◌+◌, ◌-◌, ◌*◌, ◌^◌, ◌<◌, ◌≤◌, Bool, true, false, ◌&&◌, List, [], ◌∷◌, ◌++◌, length, take}
-use Rattle.std.proofs.Common.{drop, map, get_or, refl, sym, ap, subst, ◌∙◌, append_assoc, arith, take-append-drop}
-use Rattle.std.proofs.lemmas.List.{take-append-le, take-take, length-append, length-take-le, length-drop, take_at}
-use Rattle.std.proofs.Common.{ap₂}
-use Rattle.std.specs.List.{flat_map, list_all}
-use Rattle.std.proofs.lemmas.List.Folds.{list_all-map, list_all_at, list_all_more}
-use Rattle.std.proofs.Common.{◌⊎◌, inl, inr, Ok}
-use Rattle.std.proofs.Common.{Vec, Global}
-use Rattle.std.proofs.lemmas.List.{take_all, length-map}
-use Rattle.trace_values.specs.ValueViews.{text_pairs_view}
-use Rattle.std.proofs.Common.{length-take}
-use Rattle.std.proofs.lemmas.Slice.{take-put_mid, drop-put_mid}
-use borrow.Rule.Slice.PartMut.{put_mid, same_len_mid}
+use Rattle.std.proofs.Common.{◌≡◌, ◌⊎◌, inl, inr, ℕ, ◌+◌, ◌-◌, ◌*◌, ◌^◌, ◌<◌, ◌≤◌, Bool, true, false, ◌&&◌, List, []}
+use Rattle.std.proofs.Common.{◌∷◌, ◌++◌, length, take, drop, map, get_or, refl, sym, ap, ap₂, subst, ◌∙◌, Ok, Vec}
+use Rattle.std.proofs.Common.{Global, append_assoc, arith, take-append-drop, length-take}
 use Rattle.std.proofs.lemmas.Bool.{and_parts, false_from_ne_true}
-use Rattle.std.proofs.lemmas.List.Folds.{flat_map-map, length-flat_map-take}
-use Rattle.trace_values.specs.Values.{counted, text_pair, u32, texts}
+use Rattle.std.proofs.lemmas.List.{length-append, length-take-le, length-drop, length-map, take_at, take_all}
+use Rattle.std.proofs.lemmas.List.Folds.{list_all-map, list_all_at, list_all_more, flat_map-map, length-flat_map-take}
+use Rattle.std.proofs.lemmas.Slice.{take-put_mid, drop-put_mid}
+use Rattle.std.specs.List.{flat_map, list_all}
+use borrow.Rule.Slice.PartMut.{put_mid, same_len_mid}
 use Rattle.trace_values.specs.Encoding.{AppendsIf}
-use Rattle.trace_values.proofs.TestedItems.{too_many, not_many}
 use Rattle.trace_values.specs.Limits.{most_items}
 use Rattle.trace_values.specs.Spelling.{is_short, are_short_pairs, texts_fit, own_spelling}
-use Rattle.trace_values.proofs.SpellingIsRead.{is_short-true}
-use Rattle.trace_values.proofs.ShortPairs.{first_tested, none_to_test, all_short, one_short}
+use Rattle.trace_values.specs.ValueViews.{text_pairs_view}
+use Rattle.trace_values.specs.Values.{counted, text_pair, u32, texts}
 use Rattle.trace_values.proofs.AppendedInPieces.{pair_appended}
-
--- the first and the last bytes, as many each time, and so many in all that they reach all
-pub ends_reach : (old bs : List ℕ) (n : ℕ) → n ≤ length bs → length bs ≤ n + n →
-    take (length bs - n) (take n bs ++ drop n old) ++ drop (length bs - n) bs ≡ bs
-ends_reach old bs n le reach =
-    let k = length bs - n in
-    ap (λ (l : List ℕ). l ++ drop k bs)
-    (take-append-le k (take n bs) (drop n old) (omega (arith, length-take-le n bs le, reach))
-    ∙ take-take k n bs (omega (arith, reach)))
-    ∙ take-append-drop k bs
+use Rattle.trace_values.proofs.ShortPairs.{first_tested, none_to_test, all_short, one_short}
+use Rattle.trace_values.proofs.SpellingIsRead.{is_short-true}
+use Rattle.trace_values.proofs.TestedItems.{too_many, not_many}
 
 -- what was put after a front leaves as many bytes
 pub put_length : (old bs : List ℕ) (at end : ℕ) → end ≡ at + length bs → end ≤ length old →
@@ -118,18 +103,23 @@ one_put {old} {new} {bytes} {said} {at} {end} {total} filled put le =
       long = ap length put.put ∙ put_length old (counted bytes) at end put.ends within ∙ filled.long;
     }
 
+-- the item at a place
+abbrev pub IsItem : {X : Type 0} → List X → ℕ → X → Type 0
+IsItem xs i x = (i < length xs) × (x ≡ get_or xs i x)
+
 -- a pair was put after those before it
 pub pair_put : {X : Type 0} (seen : X → List ℕ × List ℕ) (xs : List X) (i : ℕ) {x : X} {k v old mid new : List ℕ}
-    {at middle end total : ℕ} → i < length xs → x ≡ get_or xs i x → k ≡ (seen x).0 → v ≡ (seen x).1
+    {at middle end total : ℕ} → IsItem xs i x → k ≡ (seen x).0 → v ≡ (seen x).1
     → total ≡ length (spelled seen xs) → FilledTo old (spelled seen (take i xs)) at total
     → PutCounted old mid k at middle → PutCounted mid new v middle end →
     FilledTo new (spelled seen (take (i + 1) xs)) end total
-pair_put seen xs i {x} {k} {v} {old} {mid} {new} {at} {middle} {end} {total} lt is key value sum filled first second =
-    let within = one_within seen xs i lt is key value in
+pair_put seen xs i {x} {k} {v} {old} {mid} {new} {at} {middle} {end} {total} here key value sum filled first second =
+    let within = one_within seen xs i here.0 here.1 key value in
     let half = one_put filled first (omega (arith, within, filled.place, sum)) in
     let whole = one_put half second (omega (arith, within, filled.place, first.ends, sum)) in
     subst (λ (l : List ℕ). FilledTo new l end total)
-    (append_assoc (spelled seen (take i xs)) (counted k) (counted v) ∙ sym (one_more seen xs i lt is key value)) whole
+    (append_assoc (spelled seen (take i xs)) (counted k) (counted v)
+    ∙ sym (one_more seen xs i here.0 here.1 key value)) whole
 
 -- a room that is filled to its end holds all
 pub all_put : {X : Type 0} (seen : X → List ℕ × List ℕ) (xs : List X) (i : ℕ) {room : List ℕ} {at total : ℕ}
@@ -191,20 +181,20 @@ TextTold s room = (is_short s ≡ true) × (room ≡ length (counted s))
 
 -- one pair more
 pub one_told : {X : Type 0} (bytes : X → List ℕ) (xs : List (X × X)) (i : ℕ) {x : X × X} {k v : List ℕ}
-    {room key value more : ℕ} → i < length xs → x ≡ get_or xs i x → k ≡ bytes x.0 → v ≡ bytes x.1
+    {room key value more : ℕ} → IsItem xs i x → k ≡ bytes x.0 → v ≡ bytes x.1
     → TextTold k key → TextTold v value → more ≡ room + (key + value) → RoomTold bytes xs i room →
     RoomTold bytes xs (i + 1) more
-one_told {X} bytes xs i {x} {k} {v} {room} {key} {value} {more} lt is ek ev tk tv sum told =
+one_told {X} bytes xs i {x} {k} {v} {room} {key} {value} {more} here ek ev tk tv sum told =
     let seen : X × X → List ℕ × List ℕ = λ p. (bytes p.0, bytes p.1) in
     let both : one_short bytes x ≡ true =
     ap₂ (λ (a b : List ℕ). is_short a && is_short b) (sym ek) (sym ev)
     ∙ ap₂ (λ (a b : Bool). a && b) tk.0 tv.0 in
     record {
-      taken = omega (arith, sum, told.taken, tk.1, tv.1, ap length (one_more seen xs i lt is ek ev),
+      taken = omega (arith, sum, told.taken, tk.1, tv.1, ap length (one_more seen xs i here.0 here.1 ek ev),
           length-append (spelled seen (take i xs)) (text_pair (k, v)), length-append (counted k) (counted v));
-      short = tested bytes (take (i + 1) xs) ∙ list_all_more (one_short bytes) xs i x lt
+      short = tested bytes (take (i + 1) xs) ∙ list_all_more (one_short bytes) xs i x here.0
           ∙ ap₂ (λ (a b : Bool). a && b) (sym (tested bytes (take i xs)) ∙ told.short)
-          (ap (one_short bytes) (sym is) ∙ both);
+          (ap (one_short bytes) (sym here.1) ∙ both);
     }
 
 -- all pairs

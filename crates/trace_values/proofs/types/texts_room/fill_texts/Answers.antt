@@ -27,5 +27,5 @@ loop-pair-preserved g c =
     let key = c.fill_counted-at.ensures in
     let value = c.fill_counted-at-in-loop-pair.ensures in
     pair_put (λ p. (g.T.TextPart.bytes p.0, g.T.TextPart.bytes p.1)) c.args.pairs.now before.pair-index
-    c.loop-pair-test.true c.pair-item.is c.bytes.ensures c.bytes-in-loop-pair.ensures c.requires before.invariant
+    (c.loop-pair-test.true, c.pair-item.is) c.bytes.ensures c.bytes-in-loop-pair.ensures c.requires before.invariant
     (record { put = key.bytes; ends = key.end }) (record { put = value.bytes; ends = value.end })

@@ -28,7 +28,7 @@ returns-in_default-checked_add g c =
 
 pub loop-pair-preserved : goal.loop-pair-preserved
 loop-pair-preserved g c =
-    one_told g.T.TextPart.bytes c.args.pairs.now c.loop-pair.pair-index c.loop-pair-test.true c.pair-item.is
+    one_told g.T.TextPart.bytes c.args.pairs.now c.loop-pair.pair-index (c.loop-pair-test.true, c.pair-item.is)
     c.bytes.ensures c.bytes-in-loop-pair.ensures c.in-Some.ensures c.in-Some-room_of_text.ensures
     (omega (arith, c.in-Some-checked_add.ensures)) c.loop-pair.invariant
 
