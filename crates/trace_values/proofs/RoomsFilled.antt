@@ -279,7 +279,8 @@ pub key_within : {X : Type 0} (seen : X → List ℕ × List ℕ) (xs : List X) 
     → FilledTo room (spelled seen (take i xs)) at total →
     at + length (counted k) ≤ length room
 key_within seen xs i {x} {k} lt is key sum filled =
-    omega (arith, one_within seen xs i {x} {k} {(seen x).1} lt is key refl, filled.place, filled.long, sum)
+    let within = one_within seen xs i {x = x} {k = k} {v = (seen x).1} lt is key refl in
+    omega (arith, within, filled.place, filled.long, sum)
 
 -- and so does its value
 pub value_within : {X : Type 0} (seen : X → List ℕ × List ℕ) (xs : List X) (i : ℕ) {x : X} {k v old mid : List ℕ}
@@ -293,8 +294,8 @@ value_within seen xs i {x} {k} {v} {old} {mid} {at} {middle} {total} lt is key v
     omega (arith, within, filled.place, put.ends, half.long, sum)
 
 -- how much a pair takes whose room is told
-pub sum_within : {k v : List ℕ} {key value : ℕ} → TextTold k key → TextTold v value → key + value ≤ 8589934598
-sum_within {k} {v} tk tv = omega (arith, short_within k tk.0, short_within v tv.0, tk.1, tv.1)
+pub sum_within : (k v : List ℕ) {key value : ℕ} → TextTold k key → TextTold v value → key + value ≤ 8589934598
+sum_within k v tk tv = omega (arith, short_within k tk.0, short_within v tv.0, tk.1, tv.1)
 
 -- the room of all takes no less than that of a pair and of those before it
 pub room_within : {X : Type 0} (bytes : X → List ℕ) (xs : List (X × X)) (i : ℕ) {x : X × X} {k v : List ℕ}

@@ -17,7 +17,9 @@ returns-in_default-room_of_text g c =
     (value_long g.T.TextPart.bytes _ c.bytes-in-loop-pair.ensures c.in_default-room_of_text.ensures))
 
 pub overflow_add-key : goal.overflow_add-key
-overflow_add-key g c = omega (arith, sum_within c.in-Some.ensures c.in-Some-room_of_text.ensures)
+overflow_add-key g c =
+    omega (arith, sum_within c.bytes.result.now c.bytes-in-loop-pair.result.now c.in-Some.ensures
+    c.in-Some-room_of_text.ensures)
 
 pub returns-in_default-checked_add : goal.returns-in_default-checked_add
 returns-in_default-checked_add g c =
