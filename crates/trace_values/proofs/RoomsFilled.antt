@@ -22,8 +22,15 @@ use Rattle.trace_values.proofs.TestedItems.{too_many, not_many}
 pub put_length : (old bs : List ℕ) (at end : ℕ) → end ≡ at + length bs → end ≤ length old →
     length (take at old ++ bs ++ drop end old) ≡ length old
 put_length old bs at end is le =
-    omega (arith, is, le, length-append (take at old ++ bs) (drop end old), length-append (take at old) bs,
-    length-take-le at old (omega (arith, is, le)), length-drop end old)
+    omega (
+      arith,
+      is,
+      le,
+      length-append (take at old ++ bs) (drop end old),
+      length-append (take at old) bs,
+      length-take-le at old (omega (arith, is, le)),
+      length-drop end old,
+    )
 
 -- and the front is one with it
 pub put_front : (old bs : List ℕ) (at end : ℕ) → end ≡ at + length bs → end ≤ length old →
@@ -145,8 +152,14 @@ short_pairs_within (p ∷ ps) e =
     let both : ((is_short p.0 && is_short p.1) ≡ true) × (are_short_pairs ps ≡ true) =
     and_parts (is_short p.0 && is_short p.1) (are_short_pairs ps) (sym (first_tested p ps) ∙ e) in
     let one : (is_short p.0 ≡ true) × (is_short p.1 ≡ true) = and_parts (is_short p.0) (is_short p.1) both.0 in
-    omega (arith, length-append (text_pair p) (flat_map text_pair ps), length-append (counted p.0) (counted p.1),
-    short_within p.0 one.0, short_within p.1 one.1, short_pairs_within ps both.1)
+    omega (
+      arith,
+      length-append (text_pair p) (flat_map text_pair ps),
+      length-append (counted p.0) (counted p.1),
+      short_within p.0 one.0,
+      short_within p.1 one.1,
+      short_pairs_within ps both.1,
+    )
 
 -- of few pairs that cannot be told, one cannot stand after its length
 pub none_told : (ps : List (List ℕ × List ℕ)) → length ps ≤ most_items
@@ -190,8 +203,16 @@ one_told {X} bytes xs i {x} {k} {v} {room} {key} {value} {more} here ek ev tk tv
     ap₂ (λ (a b : List ℕ). is_short a && is_short b) (sym ek) (sym ev)
     ∙ ap₂ (λ (a b : Bool). a && b) tk.0 tv.0 in
     record {
-      taken = omega (arith, sum, told.taken, tk.1, tv.1, ap length (one_more seen xs i here.0 here.1 ek ev),
-          length-append (spelled seen (take i xs)) (text_pair (k, v)), length-append (counted k) (counted v));
+      taken = omega (
+        arith,
+        sum,
+        told.taken,
+        tk.1,
+        tv.1,
+        ap length (one_more seen xs i here.0 here.1 ek ev),
+        length-append (spelled seen (take i xs)) (text_pair (k, v)),
+        length-append (counted k) (counted v),
+      );
       short = tested bytes (take (i + 1) xs) ∙ list_all_more (one_short bytes) xs i x here.0
           ∙ ap₂ (λ (a b : Bool). a && b) (sym (tested bytes (take i xs)) ∙ told.short)
           (ap (one_short bytes) (sym here.1) ∙ both);
@@ -202,9 +223,11 @@ pub all_told : {X : Type 0} (bytes : X → List ℕ) (xs : List (X × X)) (i : �
     → RoomTold bytes xs i room →
     (all_short bytes xs ≡ true) × (room ≡ length (spelled (λ p. (bytes p.0, bytes p.1)) xs))
 all_told {X} bytes xs i {room} done told =
-    let all = take_all i xs done in
-    (ap (λ (l : List (X × X)). all_short bytes l) (sym all) ∙ told.short, told.taken
-    ∙ ap (λ (l : List (X × X)). length (spelled (λ p. (bytes p.0, bytes p.1)) l)) all)
+    let all = take_all i xs done in (
+      ap (λ (l : List (X × X)). all_short bytes l) (sym all) ∙ told.short,
+      told.taken
+          ∙ ap (λ (l : List (X × X)). length (spelled (λ p. (bytes p.0, bytes p.1)) l)) all,
+    )
 
 and_false : (b : Bool) → (b && false) ≡ false
 and_false true = refl

@@ -17,9 +17,9 @@ use std::alloc::AllocError;
 pub(crate) fn room_of_texts<T: TextPart>(pairs: &[(T, T)]) -> Option<usize>
     ensures { MatchOption result
         ((are_short_pairs (parts_view T.bytes pairs.now) ≡ false)
-            ⊎ (2 ^ 64 ≤ length (flat_map text_pair (parts_view T.bytes pairs.now))))
+        ⊎ (2 ^ 64 ≤ length (flat_map text_pair (parts_view T.bytes pairs.now))))
         (λ room. (are_short_pairs (parts_view T.bytes pairs.now) ≡ true)
-            × (room ≡ length (flat_map text_pair (parts_view T.bytes pairs.now)))) }
+        × (room ≡ length (flat_map text_pair (parts_view T.bytes pairs.now)))) }
 {
     let mut room = 0usize;
     for pair in pairs {

@@ -18,15 +18,21 @@ returns-in_default-room_of_text g c =
 
 pub overflow_add-key : goal.overflow_add-key
 overflow_add-key g c =
-    omega (arith, sum_within c.bytes.result.now c.bytes-in-loop-pair.result.now c.in-Some.ensures
-    c.in-Some-room_of_text.ensures)
+    omega (
+      arith,
+      sum_within c.bytes.result.now c.bytes-in-loop-pair.result.now c.in-Some.ensures
+          c.in-Some-room_of_text.ensures,
+    )
 
 pub returns-in_default-checked_add : goal.returns-in_default-checked_add
 returns-in_default-checked_add g c =
-    inr (omega (arith, c.in_default-checked_add.ensures,
-    room_within g.T.TextPart.bytes c.args.pairs.now c.loop-pair.pair-index c.loop-pair-test.true c.pair-item.is
-    c.bytes.ensures c.bytes-in-loop-pair.ensures c.in-Some.ensures c.in-Some-room_of_text.ensures
-    c.loop-pair.invariant))
+    inr (omega (
+      arith,
+      c.in_default-checked_add.ensures,
+      room_within g.T.TextPart.bytes c.args.pairs.now c.loop-pair.pair-index c.loop-pair-test.true c.pair-item.is
+          c.bytes.ensures c.bytes-in-loop-pair.ensures c.in-Some.ensures c.in-Some-room_of_text.ensures
+          c.loop-pair.invariant,
+    ))
 
 pub loop-pair-preserved : goal.loop-pair-preserved
 loop-pair-preserved g c =
