@@ -238,6 +238,7 @@ pub key_long : {X : Type 0} (bytes : X → List ℕ) (x : X × X) {k : List ℕ}
     → one_short bytes x ≡ false
 key_long bytes x key e = ap (λ (b : Bool). b && is_short (bytes x.1)) (ap is_short (sym key) ∙ e)
 
+-- a long value is not short, whatever its key is
 pub value_long : {X : Type 0} (bytes : X → List ℕ) (x : X × X) {v : List ℕ} → v ≡ bytes x.1 → is_short v ≡ false
     → one_short bytes x ≡ false
 value_long bytes x value e =
