@@ -4,10 +4,11 @@
 table.py [--aims] COUNTS ..
     The rows, bad ones first. Each of COUNTS is a file, and a later one's rows stand in place of an earlier one's. Rows
     of the original alone count as the fewest of them, and so do those that stand beside rows of the library.
-    With --aims the aims, and the rows that miss them.
+    With --aims the aims, and the rows that miss them; of an aim that many miss, they stand below the table.
 """
 import re
 import sys
+import textwrap
 
 WORKS = {
     "varint3": "three numbers", "stacks": "a stack of 32 and a text", "nested": "a nested list and map",
@@ -135,9 +136,15 @@ def aims(found):
             what = re.sub(", (alone|by a slot|by a name)$", "", of)
             missed[aim][2].append(what if aim != REST else f"`{call}` of {what}")
     print("| Call | Aim | Three numbers | Misses |\n|---|---|---|---|")
+    below = []
     for aim, (most, three, what) in missed.items():
-        shown = f"{three:.2f}" if three else ""
-        print(f"| {aim} | {most:.2f} | {shown} | {'; '.join(dict.fromkeys(what)) or 'none'} |")
+        named = "; ".join(dict.fromkeys(what)) or "none"
+        row = f"| {aim} | {most:.2f} | {f'{three:.2f}' if three else ''} | "
+        if len(row + named) > 155:
+            below.append(textwrap.fill(f"- {aim}: {named}.", 120, subsequent_indent="  ", break_on_hyphens=False))
+            named = f"{len(dict.fromkeys(what))}, below"
+        print(f"{row}{named} |")
+    print("", *below, sep="\n")
 
 
 def main():
