@@ -18,7 +18,7 @@ extern "C" {
 /* What a call answers. */
 enum {
     TRACE_DONE = 0,
-    TRACE_SHORT_ROOM = 1,        /* `length` bytes are needed; nothing was written */
+    TRACE_SHORT_ROOM = 1,        /* `length` and `state` bytes are needed; nothing was written */
     TRACE_OUT_OF_MEMORY = 2,
     /* of a batch; `place` is the record, from 0 */
     TRACE_NO_RECORD = 16,        /* no record stands there */

@@ -108,6 +108,8 @@ def _counted(value):
 
 
 def _leb128(n):
+    if n >> 64:
+        raise OverflowError(f"{n} is no number of 64 bits")
     out = bytearray()
     while n >= 0x80:
         out.append(n & 0x7F | 0x80)

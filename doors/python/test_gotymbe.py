@@ -201,6 +201,11 @@ class Doors(unittest.TestCase):
         self.assertEqual(refused(defined + event + b"\0\0"), (33, 1, 0))
         self.assertEqual(refused(defined + event + b"\x01\0\x0c\0\x01"), (34, 1, 0))
         self.assertEqual(refused(defined + Schema("A", []).record(2)), (32, 1, 0))
+        # a value that does not fit, and then no record: an event that names no schema, and a byte
+        misfit, unknown = event + b"\x01\0\x0c\0\x01", b"\x02\x02\0" + bytes(10)
+        self.assertEqual(refused(defined + misfit + 2 * unknown), (17, 2, 0))
+        self.assertEqual(refused(defined + misfit + defined + unknown), (17, 3, 0))
+        self.assertEqual(refused(defined + misfit + b"\x09" + unknown), (16, 2, 0))
         with self.assertRaises(TraceError) as it:
             list(gotymbe.read(record([(schema, 1, [1])])[:-1]))
         self.assertLess(it.exception.length, it.exception.place + 1)
@@ -303,7 +308,10 @@ class Doors(unittest.TestCase):
         """Each raises what Python raises, and nothing of the event is in the batch."""
         for kind, value in ((POOLED_STRING, 5), (POOLED_STACK, 5), (U8, "x"), (STRING, 5), (STACK, 5), (I64, "x"),
                             (VARINT, -1), (I64, 2**63), (LIST, 5), (STRING_MAP, 5), (STRING_MAP, {"a": 5}), (BYTES, 5),
-                            (F64, "x"), (MAP, [5]), (STACK, [-1])):
+                            (F64, "x"), (MAP, [5]), (STACK, [-1]), (VARINT, 2**64), (VARINT, 2**70), (U8, 2**64),
+                            (U16, 2**64 + 5), (U32, 2**64), (optional(U32), 2**64 + 5), (optional(VARINT), -1),
+                            (LIST, [(VARINT, 2**64)]), (MAP, [((U8, 2**64), (U8, 1))]),
+                            (MAP, [((U8, 1), (U16, 2**64))])):
             batch = Batch()
             batch.add(Schema("A", [("a", U8)]), 1, [7])
             before = batch.bytes()

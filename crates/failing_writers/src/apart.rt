@@ -95,12 +95,13 @@ fn register(alloc: Global, encoder: &mut Encoder<Plain<&mut Breaking>>) -> Resul
 }
 
 /// Whether the call over a writer of this manner, on a new encoder, stops where the writer fails, is told so, and is
-/// told when it is made again that the encoder has failed.
+/// told when it is made again that the encoder has failed; and whether that writer is never flushed.
 fn stops(alloc: Global, apart: Apart, manner: Manner) -> bool {
     let mut writer = Breaking::new(alloc, manner);
     let right = is_answered(alloc, Plain(&mut writer), apart, manner);
     let bytes = bytes_of(apart);
-    right && writer.bytes.as_slice() == bytes.get(..manner.place).unwrap_or(bytes)
+    let sent = bytes.get(..manner.place).unwrap_or(bytes);
+    right && writer.flushes == 0 && writer.bytes.as_slice() == sent
 }
 
 fn is_answered(alloc: Global, writer: Plain<&mut Breaking>, apart: Apart, manner: Manner) -> bool {
@@ -141,7 +142,7 @@ const GOES_ON: [u8; 23] = [
 ];
 
 /// Whether an encoder that is given a writer of this manner, which fails in the header of the new trace, tells that
-/// fault, tries that writer once, and goes on over its own one.
+/// fault, tries that writer once, does not flush it, and goes on over its own one, which it flushes once.
 fn goes_on(alloc: Global, manner: Manner) -> bool {
     let mut writer = Breaking::new(alloc, SOUND);
     let mut next = Breaking::new(alloc, manner);
@@ -149,7 +150,9 @@ fn goes_on(alloc: Global, manner: Manner) -> bool {
     let header = GOES_ON.get(..manner.place).unwrap_or(&[]);
     matches!(right, Ok(true))
         && writer.bytes.as_slice().starts_with(&GOES_ON)
+        && writer.flushes == 1
         && next.bytes.as_slice() == header
+        && next.flushes == 0
 }
 
 /// The same of these two writers.

@@ -33,6 +33,8 @@ pub struct Manner {
 #[derive(Drop)]
 pub struct Breaking {
     pub bytes: Vec<u8>,
+    /// How often it was asked to flush.
+    pub flushes: u64,
     manner: Manner,
     spent: bool,
 }
@@ -42,6 +44,7 @@ impl Breaking {
     pub fn new(alloc: Global, manner: Manner) -> Breaking {
         Breaking {
             bytes: Vec::new(alloc),
+            flushes: 0,
             manner,
             spent: false,
         }
@@ -77,6 +80,7 @@ impl Write for Breaking {
     }
 
     fn flush(&mut self) -> io::Result<()> {
+        self.flushes = self.flushes.saturating_add(1);
         match self.manner.flushing {
             Some(kind) => Err(io::Error::from(kind)),
             None => Ok(()),

@@ -1,5 +1,5 @@
 -- How the reading of an input ended that a decoder was fed.
-use Rattle.std.specs.Prelude.{◌≡◌, ◌⊎◌, ℕ, List, Option, Some, None, Result, Ok, Err, IfSome}
+use Rattle.std.specs.Prelude.{◌≡◌, ◌⊎◌, ℕ, ◌+◌, List, Option, Some, None, Result, Ok, Err, IfSome}
 use Rattle.std.specs.declared.io.ErrorKind.{ErrorKind}
 use Rattle.trace_values.specs.Values.{borrowed}
 use Rattle.trace_wire.specs.Runs.{NoFrame}
@@ -67,13 +67,21 @@ IsPlaced name (Stopped stop) placed = (LacksCause (Stopped stop) name → KeepsC
     × (¬ LacksCause (Stopped stop) name → placed ≡ Stopped stop)
 IsPlaced name ending placed = placed ≡ ending
 
+-- a decoder took all bytes before the last one of what ends at a place
+abbrev pub ComesUpTo : FeedState → ℕ → Type 0
+ComesUpTo s place = (s.fault ≡ None) × (s.fed_len + 1 ≡ place)
+
+-- the place where that begins, where it came so far again; else the same place
+pub record IsPlaceAgain (s : FeedState) (old place : ℕ) : Type 0 where
+  pub whole : ComesUpTo s old → place ≡ s.position
+  pub early : ¬ ComesUpTo s old → place ≡ old
+
 -- it is a stop at this place
 abbrev pub IsStopAt : ℕ → Ending → Type 0
 IsStopAt place (Stopped stop) = stop.place ≡ place
 IsStopAt place ending = ⊥
 
--- where a file was read again and reading ended so, its stop is at the place up to which it was read; else it can't be
--- read again
+-- where a file was read again and reading ended so, its stop is at this place; else it can't be read again
 abbrev pub IsEndingAgain : Result Ending ErrorKind → ℕ → Ending → Type 0
 IsEndingAgain (Ok OutOfMemory) place ending = ending ≡ OutOfMemory
 IsEndingAgain (Ok (Unread kind)) place ending = ending ≡ Unread kind

@@ -6,12 +6,11 @@ ghost use Rattle.gotymbe_plan.specs.Moments.{IsAnyDate};
 ghost use Rattle.gotymbe_plan.specs.declared.ending.Ending.TheVariants.{OutOfMemory};
 ghost use Rattle.gotymbe.specs.Clocks.{IsZeroBy, IsZeroSaid};
 
-use crate::output::standing;
+use crate::output::reads_twice;
 use crate::pieces::{FrameSink, feed, read_named};
 use crate::tasks::Call;
 use dial9_trace_format::decoder::{DecodedFrame, FeedDecoder};
 use gotymbe_plan::ending::Ending;
-use gotymbe_plan::output::Standing;
 use std::alloc::{AllocError, Global};
 use std::fs::File;
 use std::rt::{Clock, Files};
@@ -72,7 +71,7 @@ pub(crate) fn zero_of(
     ensures undated { ¬ IsAnyDate call.now.from call.now.to → result ≡ Ok None }
     ensures standard { name.now ≡ codes "-" → result ≡ Ok None }
 {
-    if !call.has_dates() || name == "-" || standing(rt, name) != Standing::File {
+    if !call.has_dates() || !reads_twice(rt, name) {
         return Ok(None);
     }
     let mut first = FirstClock { zero: None };

@@ -117,16 +117,28 @@ fn tell_no_memory(rt: &impl Eprint) -> u8
     FAILED
 }
 
-// Does what is asked for, and answers the status; where a text that is given for a time says none, it tells that alone.
+// Does what is asked for, and answers the status; where a name is empty, or a text that is given for a time says none,
+// it tells that alone.
 fn carry_out(
     rt: &(impl AllocGlobal + Files<File = File> + Input + Print + Eprint + Clock),
     asked: &Asked<'_>,
     terminal: bool,
 ) -> Result<u8, AllocError> {
+    if asked.has_empty_name() {
+        return Ok(tell_empty_name(rt));
+    }
     match call_of(asked, terminal) {
         Ok(call) => tasks::carry_out(rt, &call),
         Err((option, text)) => tell_no_moment(rt, option, text),
     }
+}
+
+// Tells that a name is empty, and answers the status.
+fn tell_empty_name(rt: &impl Eprint) -> u8
+    ensures { result ≡ 64 }
+{
+    let _ = eprintln!(rt; "error: the name of a file is empty");
+    status_by(ErrorKind::ValueValidation)
 }
 
 // The call that asks for this; or the option with a text that says no time.

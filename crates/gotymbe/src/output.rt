@@ -1,7 +1,9 @@
 //! What is written.
 
+ghost use Rattle.std.specs.Prelude.{◌≡◌, codes, false};
+
 use gotymbe_plan::ending::Ending;
-use gotymbe_plan::output::{Standing, Way, name_beside, way_of};
+use gotymbe_plan::output::{Standing, Way, can_read_twice, leads_to_open, name_beside, way_of};
 use std::fs::{File, OpenOptions};
 use std::io::ErrorKind;
 use std::rt::Files;
@@ -63,7 +65,7 @@ pub(crate) fn begin(
     name: &str,
     force: bool,
 ) -> Result<Written, Ending> {
-    let way = way_of(standing(rt, name), force);
+    let way = way_of(standing_to_write(rt, name)?, force);
     // (what needs memory comes before the file is made)
     let held = String::from_str(rt.alloc(), name)?;
     let begun = match way {
@@ -96,8 +98,21 @@ pub(crate) fn begin_place(
     }
 }
 
-/// What stands under a name. A link that leads nowhere is there too: it is replaced as a file is.
-pub(crate) fn standing(rt: &impl Files, name: &str) -> Standing {
+// What stands under the name of a file that is to be written. A link to what is open already, as `/dev/stdout` is one,
+// is written into as a pipe is: it is no file's name.
+fn standing_to_write(
+    rt: &(impl AllocGlobal + Files<File = File>),
+    name: &str,
+) -> Result<Standing, Ending> {
+    match fs::read_link(rt, name) {
+        Ok(target) if leads_to_open(target.as_str()) => Ok(Standing::Other),
+        Err(error) if error.kind() == ErrorKind::OutOfMemory => Err(Ending::OutOfMemory),
+        _ => Ok(standing(rt, name)),
+    }
+}
+
+// What stands under a name. A link that leads nowhere is there too: it is replaced as a file is.
+fn standing(rt: &impl Files, name: &str) -> Standing {
     match fs::metadata(rt, name) {
         Ok(found) => {
             if found.is_file() {
@@ -113,12 +128,19 @@ pub(crate) fn standing(rt: &impl Files, name: &str) -> Standing {
     }
 }
 
+/// Whether a file of bytes stands under a name, which can be read twice; `-` is standard input.
+pub(crate) fn reads_twice(rt: &impl Files, name: &str) -> bool
+    ensures { name.now ≡ codes "-" → result ≡ false }
+{
+    can_read_twice(name, standing(rt, name))
+}
+
 fn into_place(
     rt: &(impl AllocGlobal + Files<File = File>),
     name: &str,
 ) -> io::Result<(File, String)> {
     let mut options = OpenOptions::new();
-    let file = options.write(true).open(rt, name)?;
+    let file = options.append(true).open(rt, name)?;
     Ok((file, String::new(rt.alloc())))
 }
 
@@ -143,7 +165,7 @@ impl Place {
     pub(crate) fn append(&self, rt: &impl Files<File = File>, bytes: &[u8]) -> Result<(), Ending> {
         let mut options = OpenOptions::new();
         let opened = match self.way {
-            Way::Into | Way::Refused => options.write(true).open(rt, self.name.as_str()),
+            Way::Into | Way::Refused => options.append(true).open(rt, self.name.as_str()),
             Way::Beside | Way::InPlace => options.append(true).open(rt, self.beside.as_str()),
         };
         match opened {

@@ -4,9 +4,11 @@ ghost use Rattle.std.specs.Prelude.{◌≡◌, take};
 ghost use Rattle.dial9_trace_format.specs.DecodedFrames.{item_of};
 ghost use Rattle.gotymbe.specs.Picks.{LearnsOf, PicksOf};
 ghost use Rattle.gotymbe.specs.Reading.{IsFedEnding, IsEndingInside, IsPlaced, KeepsCause, IsEndingAgain};
+ghost use Rattle.gotymbe.specs.Reading.{IsPlaceAgain};
 
 use crate::clocks::zero_said;
 use crate::input::open;
+use crate::output::reads_twice;
 use crate::tasks::Call;
 use dial9_trace_format::decoder::{DecodeErrorKind, DecodedFrame, FeedDecoder};
 use gotymbe_plan::ending::{Ending, lacks_cause};
@@ -186,8 +188,9 @@ fn ending_inside(decoder: &FeedDecoder) -> Ending
     }
 }
 
-/// The same ending of a file, and of a schema that conflicts with the place where that begins: up to its last byte the
-/// file is read once more.
+/// The same ending of an input, and of a file at a schema that conflicts with the place where that begins: up to its
+/// last byte the file is read once more. What can't be read twice, as standard input and pipes, keeps the place after
+/// that schema.
 pub(crate) fn placed(
     rt: &(impl AllocGlobal + Files<File = File> + Input + Eprint + Clock),
     call: &Call<'_>,
@@ -198,7 +201,7 @@ pub(crate) fn placed(
 {
     match ending {
         Ending::Stopped(stop) => {
-            if lacks_cause(ending, name) {
+            if lacks_cause(ending, name) && reads_twice(rt, name) {
                 return placed_stop(rt, call, name, stop);
             }
             ending
@@ -220,11 +223,22 @@ fn placed_stop(
     let mut decoder = FeedDecoder::new(rt.alloc());
     let before = (stop.place as u64).saturating_sub(1);
     let again = feed_named(rt, call, name, &mut decoder, &mut Nothing, before);
-    ending_again(again, decoder.position(), stop.cause)
+    ending_again(again, place_again(&decoder, stop.place), stop.cause)
 }
 
-// The ending of a file that stops by this cause, where it was read once more up to a place, and reading ended so; or
-// by the kind of error by which it was not opened again.
+// The place where what conflicts begins, where a decoder was fed the file once more, up to the last byte before this
+// place. Where it did not come so far again, as in a file that was changed meanwhile, it is the same place.
+fn place_again(decoder: &FeedDecoder, place: usize) -> usize
+    ensures { IsPlaceAgain decoder.now.state place result }
+{
+    if decoder.fault().is_none() && decoder.fed_len().checked_add(1) == Some(place) {
+        return decoder.position();
+    }
+    place
+}
+
+// The ending of a file that stops by this cause at a place, where it was read once more, and reading ended so; or by
+// the kind of error by which it was not opened again.
 fn ending_again(again: Result<Ending, ErrorKind>, place: usize, cause: DecodeErrorKind) -> Ending
     ensures cause { KeepsCause cause result }
     ensures place { IsEndingAgain again place result }

@@ -4,6 +4,7 @@ use Rattle.std.proofs.Common.{IfSome, IsSomeAnd, arith, ap, sym, subst, inl, inr
 use Rattle.std.proofs.Common.{OnOk, ◌∙◌, append_assoc, is_ok, if◌then◌else◌}
 use Rattle.std.specs.Prelude.{unwrap_or}
 use Rattle.std.proofs.lemmas.Int.{ints}
+use Rattle.trace_lines.specs.Lines.{quoted}
 use Rattle.gotymbe_plan.specs.declared.filter.Filter.{Filter}
 use Rattle.gotymbe_plan.specs.declared.filter.Wanted.{Wanted}
 use Rattle.gotymbe_plan.specs.declared.moments.Moment.{Moment}
@@ -102,13 +103,14 @@ pub appended_if_ok :
 appended_if_ok old new text (Ok u) is = is
 appended_if_ok old new text (Err e) is = tt
 
--- a text after what begins, and what ends it, say that it says no time
+-- a text in quotes after what begins, and what ends it, say that it says no time
 pub no_time_appended :
-    {E : Type 0} (text old a b new : List ℕ) (r : Result (Unit {0}) E) → a ≡ old ++ codes "error: '" → b ≡ a ++ text →
-    OnOk r (new ≡ b ++ codes "' says no time for --") → OnOk r (new ≡ old ++ no_time_text text)
+    {E : Type 0} (text old a b new : List ℕ) (r : Result (Unit {0}) E) → a ≡ old ++ codes "error: " →
+    b ≡ a ++ quoted text → OnOk r (new ≡ b ++ codes " says no time for --") → OnOk r (new ≡ old ++ no_time_text text)
 no_time_appended text old a b new (Err e) begins told is = is
 no_time_appended text old a b new (Ok u) begins told is =
-    let front = codes "error: '" in
-    let last = codes "' says no time for --" in
-    is ∙ ap (λ (x : List ℕ). x ++ last) (told ∙ ap (λ (x : List ℕ). x ++ text) begins ∙ append_assoc old front text)
-    ∙ append_assoc old (front ++ text) last
+    let front = codes "error: " in
+    let last = codes " says no time for --" in
+    is ∙ ap (λ (x : List ℕ). x ++ last)
+    (told ∙ ap (λ (x : List ℕ). x ++ quoted text) begins ∙ append_assoc old front (quoted text))
+    ∙ append_assoc old (front ++ quoted text) last

@@ -21,6 +21,7 @@ use Rattle.gotymbe_plan.specs.declared.following.Change.TheVariants as changes
 use Rattle.gotymbe_plan.specs.Endings.{cause_text, error_text, start_text, whole_line, stop_text}
 use Rattle.gotymbe_plan.specs.Endings.{AppendsReason, AppendsLine}
 use Rattle.gotymbe_plan.specs.Following.{IsAnew, anew_line}
+use Rattle.gotymbe_plan.specs.Moments.{no_moment_text, no_time_text}
 
 -- ---- texts
 
@@ -196,6 +197,11 @@ reason_shown (endings.Dumped status) old new is = (codes "stops where the last l
 
 -- ---- lines
 
+no_time_shown : (text : List ℕ) → IsShown (no_time_text text)
+no_time_shown text =
+    both (codes "error: ") (quoted text ++ codes " says no time for --") refl
+    (both (quoted text) (codes " says no time for --") (quoted_shown text) refl)
+
 -- the line of a file is one line
 told_in_a_line :
     (name : List ℕ) (ending : Ending) (old new : List ℕ) → AppendsLine name ending old new → AddsLine old new
@@ -236,6 +242,19 @@ anew_in_a_line name changes.Nothing old new anew is = absurd anew
 anew_in_a_line name changes.Grew old new anew is = absurd anew
 anew_in_a_line name changes.Gone old new anew is = absurd anew
 
+-- the line that tells of a text that says no time
+no_moment_in_a_line :
+    (option text old new : List ℕ) → IsShown option → new ≡ old ++ no_moment_text option text → AddsLine old new
+no_moment_in_a_line option text old new shown is =
+    let front = no_time_text text in
+    let wish = codes ": a number of nanoseconds, or a date as 2025-11-28T12:00:00Z" in (
+      front ++ (option ++ wish),
+      both front (option ++ wish) (no_time_shown text) (both option wish shown refl),
+      is ∙ ap (λ (t : List ℕ). old ++ t)
+          (sym (append_assoc front (option ++ wish) (codes "\n")
+          ∙ ap (λ (t : List ℕ). front ++ t) (append_assoc option wish (codes "\n")))),
+    )
+
 -- ---- unless a growth was refused
 
 pub line_told :
@@ -255,3 +274,9 @@ pub anew_told :
     OnOk r (new ≡ old ++ anew_line name change) → IsAnew change → OnOk r (AddsLine old new)
 anew_told name change old new (Err e) is anew = is
 anew_told name change old new (Ok u) is anew = anew_in_a_line name change old new anew is
+
+pub no_moment_told :
+    {E : Type 0} (option text old new : List ℕ) (r : Result (Unit {0}) E) →
+    OnOk r (new ≡ old ++ no_moment_text option text) → IsShown option → OnOk r (AddsLine old new)
+no_moment_told option text old new (Err e) is shown = is
+no_moment_told option text old new (Ok u) is shown = no_moment_in_a_line option text old new shown is

@@ -117,7 +117,7 @@ start_text name = codes "gotymbe: " ++ told_name name ++ codes ": "
 abbrev pub error_text : ErrorKind → List ℕ
 error_text errors.NotFound = codes "no such file or folder"
 error_text errors.PermissionDenied = codes "permission denied"
-error_text errors.AlreadyExists = codes "is there already (--force writes in its place)"
+error_text errors.AlreadyExists = codes "is there already (--force writes all the same)"
 error_text errors.IsADirectory = codes "is a folder"
 error_text errors.NotADirectory = codes "a part of the name is no folder"
 error_text errors.InvalidFilename = codes "the name is too long"

@@ -4,6 +4,7 @@ use Rattle.std.specs.Prelude.{if◌then◌else◌, List, ◌++◌, codes, Option
 use Rattle.std.specs.Prelude.{Result, Ok, Err}
 use Rattle.std.specs.Str.Parse.{IsNumeral, digits_value, without_leading_plus}
 use Rattle.jiff.specs.Words.{parse_timestamp, Error}
+use Rattle.trace_lines.specs.Lines.{quoted}
 use Rattle.gotymbe_plan.specs.declared.moments.Moment.{Moment}
 use Rattle.gotymbe_plan.specs.declared.moments.Moment.TheVariants.{Time, Date}
 use Rattle.gotymbe_plan.specs.declared.moments.Bound.{Bound}
@@ -61,9 +62,9 @@ LiesAt (Time time) zero bound = bound ≡ Some (At time)
 LiesAt (Date date) (Some zero) bound = IsSomeAnd bound (IsBoundOf (date -ℤ zero))
 LiesAt (Date date) None bound = bound ≡ None
 
--- that a text says no time
+-- that a text says no time: it stands in quotes
 abbrev pub no_time_text : List ℕ → List ℕ
-no_time_text text = codes "error: '" ++ text ++ codes "' says no time for --"
+no_time_text text = codes "error: " ++ quoted text ++ codes " says no time for --"
 
 -- what an option takes
 abbrev pub wished_text : List ℕ → List ℕ

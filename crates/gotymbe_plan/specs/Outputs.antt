@@ -1,5 +1,5 @@
--- How a file is written.
-use Rattle.std.specs.Prelude.{◌≡◌, ℕ, ◌<◌, Bool, true, false, List, ◌++◌, codes}
+-- How a file is written, and whether it can be read twice.
+use Rattle.std.specs.Prelude.{◌≡◌, ◌≢◌, ℕ, ◌<◌, Bool, true, false, List, ◌++◌, codes}
 use Rattle.std.specs.Fmt.{decimal}
 use Rattle.gotymbe_plan.specs.declared.output.Standing.{Standing}
 use Rattle.gotymbe_plan.specs.declared.output.Standing.TheVariants.{Nothing, File, Other}
@@ -13,6 +13,14 @@ way_for File true = InPlace
 way_for File false = Refused
 way_for Other true = Into
 way_for Other false = Refused
+
+-- what a link leads to is open already: it lies among what the system tells of processes
+abbrev pub LeadsToOpen : List ℕ → Type 0
+LeadsToOpen target = (rest : List ℕ) × (target ≡ codes "/proc/" ++ rest)
+
+-- a file of bytes can be read twice; standard input can't
+abbrev pub CanReadTwice : List ℕ → Standing → Type 0
+CanReadTwice name standing = (name ≢ codes "-") × (standing ≡ File)
 
 -- the name of a file while it is written, where so many of these names are taken: another one for each number
 pub record IsNameBeside (name : List ℕ) (taken : ℕ) (beside : List ℕ) : Type 0 where

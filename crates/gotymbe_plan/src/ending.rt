@@ -449,7 +449,7 @@ fn error_text(kind: ErrorKind) -> &'static str
     match kind {
         ErrorKind::NotFound => "no such file or folder",
         ErrorKind::PermissionDenied => "permission denied",
-        ErrorKind::AlreadyExists => "is there already (--force writes in its place)",
+        ErrorKind::AlreadyExists => "is there already (--force writes all the same)",
         ErrorKind::IsADirectory => "is a folder",
         ErrorKind::NotADirectory => "a part of the name is no folder",
         ErrorKind::InvalidFilename => "the name is too long",

@@ -1,12 +1,14 @@
 //! Times that are asked for: of the trace's clock, or as dates (docs/ROLES.md, "Clocks").
 
-ghost use Rattle.std.specs.Prelude.{◌≡◌, ◌-ℤ◌, ◌↔◌, IsTrue, Some, None, option_map, IfOk, IfErr};
+ghost use Rattle.std.specs.Prelude.{◌≡◌, ◌-ℤ◌, ◌↔◌, IsTrue, Some, None, option_map, IfOk, IfErr, OnOk, string_bytes};
 ghost use Rattle.trace_lines.specs.Appending.{AppendsText};
 ghost use Rattle.gotymbe_plan.specs.Moments.{SaysMoment, IsMomentGiven, date_said, IsDate, IsAnyDate};
 ghost use Rattle.gotymbe_plan.specs.Moments.{IsBoundOf, far_end, LiesAt, no_moment_text, no_time_text, wished_text};
+ghost use Rattle.gotymbe_plan.specs.OneLine.{IsShown, AddsLine};
 
 use jiff::Timestamp;
 use std::alloc::AllocError;
+use trace_lines::text::push_quoted;
 
 /// A time that is asked for.
 #[derive(Clone, Copy, Debug, PartialEq, Eq)]
@@ -118,8 +120,18 @@ fn far_end(time: i128) -> Bound
     if time < 0 { Bound::Early } else { Bound::Late }
 }
 
-/// Appends what is told of a text that is given for a time and says none. `AllocError` where a growth was refused.
+/// Appends what is told of a text that is given for a time and says none: in quotes (docs/FORMAT.md, "Dumps"), so that
+/// it is one line, whatever the text. `AllocError` where a growth was refused.
+#[tactic(auto, using(crate::proofs::ToldInOneLine::no_moment_told))]
 pub fn push_no_moment(out: &mut String, option: &str, text: &str) -> Result<(), AllocError>
+    ensures text { AppendsText (no_moment_text option.now text.now) out.old out.new result }
+    ensures line { IsShown option.now → OnOk result
+        (AddsLine (string_bytes out.old) (string_bytes out.new)) }
+{
+    push_no_moment_line(out, option, text)
+}
+
+fn push_no_moment_line(out: &mut String, option: &str, text: &str) -> Result<(), AllocError>
     ensures { AppendsText (no_moment_text option.now text.now) out.old out.new result }
 {
     push_no_time(out, text)?;
@@ -130,9 +142,9 @@ pub fn push_no_moment(out: &mut String, option: &str, text: &str) -> Result<(), 
 fn push_no_time(out: &mut String, text: &str) -> Result<(), AllocError>
     ensures { AppendsText (no_time_text text.now) out.old out.new result }
 {
-    out.push_str("error: '")?;
-    out.push_str(text)?;
-    out.push_str("' says no time for --")
+    out.push_str("error: ")?;
+    push_quoted(out, text.as_bytes())?;
+    out.push_str(" says no time for --")
 }
 
 // Appends what an option takes.

@@ -1,13 +1,13 @@
 //! How a file is written.
 
-ghost use Rattle.std.specs.Prelude.{◌≡◌, ◌++◌, IfOk, codes, string_bytes};
+ghost use Rattle.std.specs.Prelude.{◌≡◌, ◌↔◌, ◌++◌, IfOk, IsTrue, codes, string_bytes};
 ghost use Rattle.std.specs.Fmt.{decimal};
 ghost use Rattle.trace_lines.specs.Appending.{AppendsText};
-ghost use Rattle.gotymbe_plan.specs.Outputs.{way_for, IsNameBeside};
+ghost use Rattle.gotymbe_plan.specs.Outputs.{way_for, IsNameBeside, CanReadTwice, LeadsToOpen};
 
 use std::alloc::{AllocError, Global};
 
-/// What stands under the name of a file that is to be written.
+/// What stands under the name of a file.
 #[derive(Clone, Copy, Debug, PartialEq, Eq)]
 pub enum Standing {
     /// Nothing.
@@ -41,6 +41,20 @@ pub fn way_of(standing: Standing, force: bool) -> Way
         (Standing::Other, true) => Way::Into,
         (_, false) => Way::Refused,
     }
+}
+
+/// Whether a link that leads to this leads to what is open already, as `/dev/stdout` does.
+pub fn leads_to_open(target: &str) -> bool
+    ensures { IsTrue result ↔ LeadsToOpen target.now }
+{
+    target.starts_with("/proc/")
+}
+
+/// Whether what stands under a name can be read twice: a file of bytes, and not `-`, which is standard input.
+pub fn can_read_twice(name: &str, standing: Standing) -> bool
+    ensures { IsTrue result ↔ CanReadTwice name.now standing }
+{
+    name != "-" && standing == Standing::File
 }
 
 /// The name under which a file is written meanwhile, where so many of these names are taken. `AllocError` where a

@@ -1,6 +1,6 @@
 -- What the words of a call ask for.
 use Rattle.std.specs.Prelude.{◌≡◌, ◌≢◌, ◌⊎◌, ◌<◌, ◌^◌, ℕ, IsSome, Bool, true, false, List, [], Option, Some, None}
-use Rattle.std.specs.Prelude.{option_map, unwrap_or, map, codes}
+use Rattle.std.specs.Prelude.{option_map, unwrap_or, map, codes, IsSomeAnd, Any}
 use Rattle.std.specs.Str.Parse.{IsNumeral, digits_value, without_leading_plus}
 use Rattle.clap.specs.Words.{found_of, first_value}
 use Rattle.clap.specs.Matches.{one_text, matched_of, raw_values}
@@ -74,6 +74,10 @@ pub record IsAsked (task : Task) (given : ArgMatches) (asked : Asked) : Type 0 w
   pub idle : IsNumberOf given (codes "idle") asked.idle
   pub quiet : IsFlag given (codes "quiet") asked.quiet
   pub title : option_map (λ s. s.now) asked.title ≡ first_value (found_of given) (codes "title")
+
+-- the name of what is written is empty, or that of a file that is read
+abbrev pub HasEmptyName : Asked → Type 0
+HasEmptyName asked = IsSomeAnd asked.output (λ s. s.now ≡ []) ⊎ Any (λ s. s.now ≡ []) asked.files.items
 
 -- a time, a name or a number of events is said
 abbrev pub Selects : Asked → Type 0

@@ -1,8 +1,8 @@
 //! What the words of a call ask for.
 
-ghost use Rattle.std.specs.Prelude.{◌≡◌, ◌↔◌, IsTrue, IfOk, map};
+ghost use Rattle.std.specs.Prelude.{◌≡◌, ◌↔◌, IsTrue, IfOk, Any, [], map};
 ghost use Rattle.gotymbe_words.specs.Asking.{IsTaskNamed, IsAsked, values_of, IsNumberOf, Selects, status_by};
-ghost use Rattle.gotymbe_words.specs.Asking.{HasForm, merged_form};
+ghost use Rattle.gotymbe_words.specs.Asking.{HasForm, merged_form, HasEmptyName};
 
 use clap::ArgMatches;
 use clap::error::ErrorKind;
@@ -91,6 +91,13 @@ impl Asked<'_> {
         self.from.is_some() || self.to.is_some() || self.limit.is_some() || !self.events.is_empty()
     }
 
+    /// Whether the name of a file or a folder is empty: none has such a name.
+    pub fn has_empty_name(&self) -> bool
+        ensures { IsTrue result ↔ HasEmptyName self.now }
+    {
+        self.output.is_some_and(|name| name.is_empty()) || is_any_empty(&self.files)
+    }
+
     /// The form of the lines of a file's events; `None` where the lines are those of its frames.
     pub fn form(&self) -> Option<Form>
         ensures { HasForm self.now result }
@@ -166,6 +173,13 @@ pub fn what_is_asked<'a>(
         quiet: given.get_flag("quiet"),
         title: given.get_str("title"),
     })
+}
+
+// Whether a name is empty.
+fn is_any_empty(names: &[&str]) -> bool
+    ensures { IsTrue result ↔ Any (λ s. s.now ≡ []) names.now }
+{
+    names.iter().any(|name| name.is_empty())
 }
 
 // The values of an id, none where it has none.

@@ -1,9 +1,11 @@
 -- What an answer is, beside the one that is wanted.
-use Rattle.std.specs.Prelude.{◌≡◌, ℕ, Bool, true, false, ◌==◌, ◌&&◌, nat_le, if◌then◌else◌, List, length}
+use Rattle.std.specs.Prelude.{◌≡◌, ℕ, Bool, true, false, ◌==◌, ◌&&◌, ◌||◌, nat_le, nat_lt, if◌then◌else◌}
+use Rattle.std.specs.Prelude.{List, length}
 use Rattle.std.specs.Prelude.{Option, Some, None, is_none, Result, Ok, Err, ◌∷◌, []}
 use Rattle.std.specs.declared.alloc.AllocError.{AllocError}
 use Rattle.trace_values.specs.declared.leb128.error.EncodeError.{EncodeError}
 use Rattle.trace_values.specs.declared.leb128.error.EncodeError.TheVariants as errors
+use Rattle.trace_wire.specs.Runs.{Item, SchemaItem, EventItem, StringsItem, StacksItem, AnnotationsItem}
 use Rattle.dial9_trace_format.specs.declared.decoder.error.DecodeError.{DecodeError}
 use Rattle.dial9_trace_format.specs.declared.decoder.error.DecodeErrorKind.TheVariants as kinds
 use Rattle.dial9_trace_format.specs.declared.decoder.decoded_frame_ref.DecodedFrameRef.{DecodedFrameRef}
@@ -12,6 +14,7 @@ use Rattle.dial9_trace_format.specs.Iterating.{GivesNext}
 use Rattle.hostile.specs.declared.changed.tally.End.{End}
 use Rattle.hostile.specs.declared.changed.tally.End.TheVariants as ends
 use Rattle.hostile.specs.declared.refused.before.Stood.{Stood}
+use Rattle.hostile.specs.declared.refused.dumping.Front.{Front}
 use Rattle.hostile.specs.declared.refused.feeding.Form.{Form}
 use Rattle.hostile.specs.declared.refused.feeding.Form.TheVariants as forms
 use Rattle.hostile.specs.declared.refused.runs.Reader.{Reader}
@@ -35,6 +38,10 @@ made_as (Err e) = Memory
 abbrev pub dumped_as : ℕ → ℕ → List ℕ → Answer
 dumped_as wanted status rest =
     if status == 4 then Memory else (if status == wanted && length rest == 0 then Same else Other)
+
+-- a front that was dumped before the growth of this number has its lines among so many bytes that are out
+abbrev pub is_out : ℕ → ℕ → Front → Bool
+is_out number sent front = nat_lt number front.growth || nat_le front.lines sent
 
 -- it ended by want of memory
 abbrev pub EndsByWant : Option DecodeError → Type 0
@@ -60,6 +67,17 @@ abbrev pub fed_gave : Form → ℕ → Option Stood → Bool
 fed_gave form given None = false
 fed_gave forms.Feed given (Some stood) = nat_le given stood.frames
 fed_gave forms.Push given (Some stood) = given == stood.frames
+fed_gave forms.Compact given (Some stood) = given == stood.frames
+fed_gave forms.Passing given (Some stood) = given == stood.frames
+
+-- an event of this wire id and time is wanted, whatever its values
+abbrev pub is_headed : Option Item → ℕ → ℕ → Bool
+is_headed (Some (EventItem id time values)) i t = id == i && time == t
+is_headed (Some (SchemaItem entry)) i t = false
+is_headed (Some (StringsItem entries)) i t = false
+is_headed (Some (StacksItem entries)) i t = false
+is_headed (Some (AnnotationsItem id annotations)) i t = false
+is_headed None i t = false
 
 -- how a reader ended, which read all bytes or did not
 abbrev pub end_at : Bool → Option DecodeError → End

@@ -5,6 +5,8 @@ use Rattle.hostile.specs.declared.refused.verdict.Verdict.{Verdict}
 use Rattle.hostile.specs.declared.refused.verdict.Verdict.TheVariants.{Untouched, Told, Absorbed, Wrong}
 use Rattle.hostile.specs.declared.refused.verdict.Answer.TheVariants as answers
 use Rattle.hostile.specs.declared.refused.verdict.Counts.{Counts}
+use Rattle.hostile.specs.declared.refused.verdict.Need.{Need}
+use Rattle.hostile.specs.declared.refused.verdict.Need.TheVariants as needs
 
 -- no growth was refused, the answer is the same, and all before and after it is right
 abbrev pub IsUntouched : Seen → Type 0
@@ -46,8 +48,10 @@ one_more_if false n = n
 abbrev pub HasNone : Counts → Type 0
 HasNone counts = (counts.tried ≡ 0) × (counts.told ≡ 0) × (counts.absorbed ≡ 0) × (counts.wrong ≡ 0)
 
--- Nothing was wrong. Where growths are refused, calls that take memory told at least one refusal; calls that take none
--- met none.
-abbrev pub IsRight : Bool → Bool → Counts → Type 0
-IsRight refuses true counts = (counts.wrong ≡ 0) × (refuses ≡ true → 0 < counts.told)
-IsRight refuses false counts = (counts.wrong ≡ 0) × (counts.told ≡ 0) × (counts.absorbed ≡ 0)
+-- Nothing was wrong. Where growths are refused, calls that need memory told at least one refusal; calls that ask for
+-- room to spare absorbed at least one, and told none; calls that take none met none.
+abbrev pub IsRight : Bool → Need → Counts → Type 0
+IsRight refuses needs.Memory counts = (counts.wrong ≡ 0) × (refuses ≡ true → 0 < counts.told)
+IsRight refuses needs.Spare counts =
+    (counts.wrong ≡ 0) × (counts.told ≡ 0) × (refuses ≡ true → 0 < counts.absorbed)
+IsRight refuses needs.Nothing counts = (counts.wrong ≡ 0) × (counts.told ≡ 0) × (counts.absorbed ≡ 0)

@@ -1,8 +1,10 @@
 //! Calls of which each growth is refused.
 
+pub mod all_frames;
 pub mod asks;
 pub mod before;
 pub mod causes;
+pub mod compact;
 pub mod copies;
 pub mod dumping;
 pub mod encoding;
@@ -15,6 +17,7 @@ pub mod lists;
 pub mod parts;
 pub mod plan;
 pub mod program;
+pub mod raw;
 pub mod reading;
 pub mod resolving;
 pub mod resuming;

@@ -1,16 +1,16 @@
 -- One float more.
 use Rattle.std.proofs.Common.{◌≡◌, ◌<◌, ◌≤◌, ◌⊎◌, inl, inr, ◌+◌, ◌==◌, ℕ, Bool, true, false, not, cond, T, List, []}
 use Rattle.std.proofs.Common.{◌∷◌, ◌++◌, zero, suc, length, get_or, sym, ap, subst, refl, ◌∙◌, arith, length-append}
-use Rattle.std.proofs.Common.{append-nil, add-zero}
-use Rattle.std.specs.List.{All, Contains, count_by, filter}
+use Rattle.std.proofs.Common.{add-zero}
+use Rattle.std.specs.List.{All, Contains, count_by}
 use Rattle.std.specs.Prelude.{is_nan}
 use Rattle.std.specs.Ordering.{is_lt}
-use Rattle.std.specs.Float.{Float, NotNan, ◌<ᶠ◌, total_cmp, is_sign_negative}
+use Rattle.std.specs.Float.{Float, NotNan, total_cmp, is_sign_negative}
 use Rattle.std.specs.Float.Ieee.{lt}
 use Rattle.std.specs.declared.cmp.Ordering.TheVariants.{Less, Equal, Greater}
 use Rattle.std.proofs.lemmas.Bool.{false_from_ne_true, eqb-true, eqb-false}
 use Rattle.std.proofs.lemmas.Float.{lt_irrefl, lt_trans, le_of_not-lt, lt_of_lt_of_le, lt_of_le_of_lt}
-use Rattle.std.proofs.lemmas.List.Elements.{All-nil, All-push, Contains-push, Contains-append_left, filter-append}
+use Rattle.std.proofs.lemmas.List.Elements.{All-push, Contains-push, Contains-append_left, filter-append}
 use Rattle.std.proofs.lemmas.List.Elements.{filter_passes}
 use Rattle.std.proofs.lemmas.List.Sums.{sum_by_push, count_by-le-length, length-filter}
 use Rattle.trace_stats.specs.Floats.{float_of, is_a_number, stands_before}

@@ -4,3 +4,4 @@ pub mod FloatAddedToSummary
 pub mod TextsByTheirEnds
 pub mod EventAddedToSchema
 pub mod EventAddedToTrace
+pub mod EventsOfRun

@@ -5,4 +5,5 @@ pub mod Fields
 pub mod Events
 pub mod Traces
 pub mod Refusals
+pub mod Runs
 pub mod parts

@@ -1,3 +1,4 @@
 pub mod Events
 pub mod Floats
 pub mod Places
+pub mod Runs

@@ -1,18 +1,22 @@
 //! What is kept of the events of a trace, by schema.
 
 ghost use Rattle.std.specs.Prelude.{◌≡◌, ◌<◌, ◌++◌, ◌∷◌, [], true, false, List, length, IfOk, OnOk, OnErr, IfErr};
-ghost use Rattle.std.specs.Prelude.{IfNone, IfSome};
+ghost use Rattle.std.specs.Prelude.{IfNone, IfSome, None, map};
+ghost use Rattle.dial9_trace_format.specs.DecodedFrames.{item_of};
 ghost use Rattle.dial9_trace_format.specs.ShownEvents.{shown_event};
+ghost use Rattle.dial9_trace_format.specs.Sinks.{RunsAfter};
 ghost use Rattle.trace_stats.specs.Events.{Counted, counted_event};
-ghost use Rattle.trace_events.specs.OwnedEvents.{owned_event};
+ghost use Rattle.trace_events.specs.OwnedEvents.{owned_event, events_in};
 ghost use Rattle.trace_stats.specs.Refusals.{RefusesEvent, IsNewSchema};
+ghost use Rattle.trace_stats.specs.Runs.{CountsAll};
+ghost use Rattle.trace_stats.specs.parts.Runs.{CountsNext, CountsThese, FailsAgain};
 ghost use Rattle.trace_stats.specs.Traces.{AreStatsOf};
 ghost use Rattle.trace_stats.specs.parts.Places.{IsPlaceOf, IsNoPlaceOf, HasNoPlace, FindsPlace, answer_of};
 ghost use Rattle.trace_stats.specs.declared.trace.StatsError.TheVariants.{OutOfMemory};
 
 use crate::full::Full;
 use crate::schema::SchemaStats;
-use dial9_trace_format::decoder::RawEvent;
+use dial9_trace_format::decoder::{DecodedFrame, Decoder, RawEvent, TryForEachError};
 use std::alloc::{AllocError, Global};
 use thiserror::Error;
 use trace_events::event::OwnedEvent;
@@ -92,11 +96,71 @@ impl TraceStats {
         answer_of(self.schemas[place].add_owned(event, bytes))
     }
 
+    /// Counts the events that a decoder has left too, in order, as `add_owned` does: each takes the bytes of its frame,
+    /// and of the headers and resets right before that. `Ok` where no frame stands, as at the end of the input.
+    /// `Decode` where the decoder fails, by `DecodeErrorKind::Conflict` or `DecodeErrorKind::OutOfMemory`, or has
+    /// failed: the events before are counted. `User` of an event that is refused, as by `add_owned`: it was read, and
+    /// those before it are counted, so that another call goes on after it.
+    pub fn add_all(&mut self, decoder: &mut Decoder<'_>) -> Result<(), TryForEachError<StatsError>>
+        ensures all { decoder.old.failure ≡ None →
+            CountsAll decoder.old decoder.new self.old self.new result }
+        ensures again { IfSome decoder.old.failure
+            (λ f. RunsAfter f decoder.old decoder.new self.old self.new result) }
+    {
+        'frames: loop {
+            match self.add_next(decoder) {
+                Ok(true) => {}
+                Ok(false) => return Ok(()),
+                Err(error) => return Err(error),
+            }
+        }
+    }
+
     /// What is kept of each schema that has events, in the order of their first events.
     pub fn schemas(&self) -> &[SchemaStats]
         ensures { result.now ≡ self.now.schemas.items }
     {
         self.schemas.as_slice()
+    }
+
+    // Counts the next frame too, where it is an event. Answers whether a frame stood there.
+    fn add_next(&mut self, decoder: &mut Decoder<'_>) -> Result<bool, TryForEachError<StatsError>>
+        ensures next { decoder.old.failure ≡ None →
+            CountsNext decoder.old decoder.new self.old self.new result }
+        ensures again { IfSome decoder.old.failure
+            (λ f. FailsAgain f decoder.old decoder.new self.old self.new result) }
+    {
+        let before = Decoder::position(decoder);
+        match decoder.next_frame() {
+            Ok(Some(frame)) => {
+                let bytes = Decoder::position(decoder).saturating_sub(before) as u64;
+                match self.add_frame(&frame, decoder, bytes) {
+                    Ok(()) => Ok(true),
+                    Err(error) => Err(TryForEachError::User(error)),
+                }
+            }
+            Ok(None) => Ok(false),
+            Err(error) => Err(TryForEachError::Decode(error)),
+        }
+    }
+
+    // Counts a frame of so many bytes too, where it is an event, with the schemas and the pools of a decoder.
+    fn add_frame(
+        &mut self,
+        frame: &DecodedFrame,
+        decoder: &Decoder<'_>,
+        bytes: u64,
+    ) -> Result<(), StatsError>
+        ensures { CountsThese
+            (map (λ e. counted_event e bytes) (events_in decoder.now.grammar.wire_types
+            decoder.now.pools.strings decoder.now.pools.stacks (item_of frame.now)))
+            self.old self.new result }
+    {
+        let (strings, stacks) = (decoder.string_pool(), decoder.stack_pool());
+        match OwnedEvent::of_frame(frame, decoder.registry(), strings, stacks) {
+            Some(event) => self.add_owned(&event, bytes),
+            None => Ok(()),
+        }
     }
 
     // Where a schema stands: at the end, of no events, where it is new.

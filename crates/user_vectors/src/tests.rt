@@ -5,6 +5,7 @@ mod conversions;
 mod cuts;
 mod folded;
 mod fronts;
+mod json_lines;
 mod made;
 mod roles;
 mod segments;

@@ -1,13 +1,12 @@
 //! Following a file as it grows.
 
 use crate::follow::{End, Following};
-use crate::output::{Noted, STANDARD, standing};
+use crate::output::{Noted, STANDARD, reads_twice};
 use crate::pieces::{ending_by, placed};
 use crate::tasks::{Call, tell, write};
 use dial9_trace_format::decoder::FeedDecoder;
 use gotymbe_plan::ending::{Ending, dump_ending, told_of};
 use gotymbe_plan::following::{Change, push_anew};
-use gotymbe_plan::output::Standing;
 use std::alloc::AllocError;
 use std::fs::File;
 use std::io;
@@ -25,7 +24,7 @@ pub(crate) fn follow(
     let Some(name) = call.asked.files.first() else {
         return Ok(FAILED);
     };
-    if standing(rt, name) != Standing::File {
+    if !reads_twice(rt, name) {
         return write(rt, call);
     }
     'traces: for _ in 0..u64::MAX {

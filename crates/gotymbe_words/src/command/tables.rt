@@ -43,7 +43,7 @@ const RESOLVE: Choice = Choice {
     name: "resolve",
     form: Form::Flag,
     value_name: "",
-    help: "The events alone, with texts and stacks in place of ids",
+    help: "Of the frames the events alone, with texts and stacks in place of ids",
 };
 
 const MERGE: Choice = Choice {

@@ -1,7 +1,8 @@
 //! A sink beside a reader of borrowed values.
 
 ghost use Rattle.std.specs.Prelude.{◌≡◌, ◌≢◌, ◌↔◌, ◌<◌, IsTrue, IfOk};
-ghost use Rattle.hostile.specs.Showings.{error_told};
+ghost use Rattle.dial9_trace_format.specs.ShownEvents.{shown_event};
+ghost use Rattle.hostile.specs.Showings.{error_told, IsKnownTo, TakesRight};
 ghost use Rattle.hostile.specs.declared.changed.beside.Answer.TheVariants as answers;
 
 use crate::calls::{decoder_of, next_borrowed, place_of, show};
@@ -37,7 +38,7 @@ enum Refusal {
 }
 
 impl<'a> EventSink<'a, Refusal> for Beside<'a> {
-    ghost step = { λ _ _ _ _. Unit {0} };
+    ghost step = { TakesRight };
 
     fn event(&mut self, event: &RawEvent<'a, '_>) -> Result<(), Refusal> {
         self.events = self.events.saturating_add(1);
@@ -58,7 +59,10 @@ fn is_next<'a>(
     alloc: Global,
     reader: &mut Decoder<'a>,
     event: &RawEvent<'a, '_>,
-) -> Result<bool, AllocError> {
+) -> Result<bool, AllocError>
+    ensures { IfOk result (λ right. IsTrue right
+        → IsKnownTo reader.new (shown_event event.now)) }
+{
     let answer = event.resolve(alloc);
     if matches!(answer, Err(DeserError::OutOfMemory)) {
         return Err(AllocError);

@@ -36,7 +36,7 @@ impl<'b> EventSink<'b, ()> for Taking {
 }
 
 /// A trace that is cut at every place has fewer bytes than this.
-const LONG: usize = 400;
+pub const LONG: usize = 400;
 
 /// Asks for the cause at every cut of a trace, and at the last one alone where it is long.
 pub fn sweep_causes(alloc: Global, bytes: &[u8], counts: &mut Counts) -> Result<(), AllocError> {

@@ -5,6 +5,7 @@ ghost use Rattle.hostile.specs.Answers.{fed_gave};
 
 use crate::calls::feed;
 use crate::refused::before::{Stood, Tables, what_stood};
+use crate::refused::compact::{next_compact, pass_event, take_compact};
 use crate::refused::heap::{refuse, was_refused};
 use crate::refused::runs::{Reference, answer_of};
 use crate::refused::sweep::Trial;
@@ -22,7 +23,14 @@ pub enum Form {
     Feed,
     /// `push`, and `next_frame` until it gives nothing.
     Push,
+    /// The same by `next_compact`.
+    Compact,
+    /// The same, where an event that stands whole is passed, and its values are left in the bytes.
+    Passing,
 }
+
+/// All of them.
+pub const FORMS: &[Form] = &[Form::Feed, Form::Push, Form::Compact, Form::Passing];
 
 /// A trace that is fed in two pieces, cut at this place.
 #[derive(Drop)]
@@ -48,7 +56,7 @@ impl Feeding<'_, '_> {
     fn take(&self, decoder: &mut FeedDecoder, piece: &[u8], run: &mut Run) {
         match self.form {
             Form::Feed => self.feed(decoder, piece, run),
-            Form::Push => self.push(decoder, piece, run),
+            _ => self.push(decoder, piece, run),
         }
     }
 
@@ -72,9 +80,21 @@ impl Feeding<'_, '_> {
             return;
         }
         for _ in 0..=self.reference.bytes.len() {
-            let frame = self.reference.owned.frames.get(run.given);
-            if !take_owned(run, frame, next_fed(decoder)) {
+            if !self.pull(decoder, run) {
                 return;
+            }
+        }
+    }
+
+    /// Takes the next frame. Whether there was one.
+    fn pull(&self, decoder: &mut FeedDecoder, run: &mut Run) -> bool {
+        let frame = self.reference.owned.frames.get(run.given);
+        match self.form {
+            Form::Feed | Form::Push => take_owned(run, frame, next_fed(decoder)),
+            Form::Compact => take_compact(run, frame, next_compact(decoder)),
+            Form::Passing => {
+                pass_event(decoder, self.reference.bytes, frame, run)
+                    || take_compact(run, frame, next_compact(decoder))
             }
         }
     }
@@ -128,7 +148,7 @@ impl Feeding<'_, '_> {
     {
         match (self.form, stood) {
             (Form::Feed, Some(stood)) => given <= stood.frames,
-            (Form::Push, Some(stood)) => given == stood.frames,
+            (_, Some(stood)) => given == stood.frames,
             (_, None) => false,
         }
     }
@@ -148,5 +168,6 @@ fn stays_failed(decoder: &mut FeedDecoder, error: &DecodeError) -> bool {
     told &= is_told(feed(decoder, &[7]), error);
     told &= is_told(push(decoder, &[]), error);
     told &= is_told(next_fed(decoder), error);
+    told &= is_told(next_compact(decoder), error) & decoder.whole_event().is_none();
     told & (decoder.position() == error.pos)
 }

@@ -85,6 +85,10 @@ fn makes_one_known(encoder: &mut Encoder<Told>, call: &Call) -> bool {
             let _ = encoder.register_existing(schema);
             true
         }
+        Call::RegisterAt(slot, schema) => {
+            let _ = encoder.register_at(*slot, schema);
+            true
+        }
         Call::InternString(text) => encoder.intern_string(text).is_ok(),
         Call::InternStack(addresses) => encoder.intern_stack_frames(addresses).is_ok(),
         _ => true,

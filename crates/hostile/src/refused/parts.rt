@@ -378,6 +378,8 @@ pub enum NewEncoder {
     WithHasher(RandomState),
     /// `Encoder::new_to_with_hasher`.
     ToWithHasher(RandomState),
+    /// `Encoder::new` and `reset_to`.
+    Reset,
 }
 
 impl NewEncoder {
@@ -389,7 +391,17 @@ impl NewEncoder {
             NewEncoder::ToWithHasher(state) => {
                 Encoder::new_to_with_hasher(alloc, Vec::new(alloc), *state)
             }
+            NewEncoder::Reset => reset(alloc),
         }
+    }
+}
+
+/// An encoder that writes to its second list.
+fn reset(alloc: Global) -> Result<Encoder, EncodeError> {
+    let mut encoder = Encoder::new(alloc)?;
+    match encoder.reset_to(Vec::new(alloc)) {
+        Ok(_) => Ok(encoder),
+        Err(error) => Err(error),
     }
 }
 

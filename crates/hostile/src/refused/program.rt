@@ -1,7 +1,7 @@
 //! What the program does and prints of calls of which growths are refused.
 
 use crate::refused::tallies::Tallies;
-use crate::refused::verdict::Counts;
+use crate::refused::verdict::{Counts, Need};
 use std::alloc::{AllocError, Global};
 use std::hash::RandomState;
 use std::io;
@@ -74,10 +74,12 @@ fn tell(rt: &impl Print, refuses: bool, tallies: &Tallies) -> anyhow::Result<boo
         ("schemas and registries", &tallies.schemas),
     ] {
         tell_one(rt, name, counts)?;
-        good &= counts.is_right(refuses, true);
+        good &= counts.is_right(refuses, Need::Memory);
     }
+    tell_one(rt, "lists of all frames", &tallies.all_frames)?;
     tell_one(rt, "calls that take no memory", &tallies.free)?;
-    Ok(tallies.free.is_right(refuses, false) & good)
+    let spared = tallies.all_frames.is_right(refuses, Need::Spare);
+    Ok(tallies.free.is_right(refuses, Need::Nothing) & spared & good)
 }
 
 fn tell_one(rt: &impl Print, name: &str, counts: &Counts) -> anyhow::Result<()> {

@@ -26,17 +26,19 @@ pub fn nested(alloc: Global) -> Result<FieldValue, AllocError> {
 #[derive(Clone, Copy)]
 pub enum Sample {
     Schemas,
+    Slots,
     Pools,
     Many,
 }
 
 /// All of them.
-pub const SAMPLES: &[Sample] = &[Sample::Schemas, Sample::Pools, Sample::Many];
+pub const SAMPLES: &[Sample] = &[Sample::Schemas, Sample::Slots, Sample::Pools, Sample::Many];
 
 /// The calls of a list.
 pub fn calls_of(alloc: Global, sample: Sample) -> Result<Vec<Call>, AllocError> {
     match sample {
-        Sample::Schemas => with_schemas(alloc),
+        Sample::Schemas => with_schemas(alloc, WITH_SCHEMAS),
+        Sample::Slots => with_schemas(alloc, WITH_SLOTS),
         Sample::Pools => with_pools(alloc),
         Sample::Many => many(alloc),
     }
@@ -47,6 +49,8 @@ pub fn calls_of(alloc: Global, sample: Sample) -> Result<Vec<Call>, AllocError> 
 enum Given {
     Register(Of),
     Write(Of, u64, Values),
+    RegisterAt(u16, Of),
+    WriteAt(u16, Of, u64, Values),
 }
 
 /// Which schema it is.
@@ -85,18 +89,39 @@ const WITH_SCHEMAS: &[Given] = &[
     Given::Write(Of::Plain, 7, Values::Number(u64::MAX)),
 ];
 
-fn with_schemas(alloc: Global) -> Result<Vec<Call>, AllocError> {
+/// The same of schemas under slots: those of a wire id, those that go by their name, and events of both.
+const WITH_SLOTS: &[Given] = &[
+    Given::RegisterAt(7, Of::Plain),
+    Given::RegisterAt(7, Of::Plain),
+    Given::RegisterAt(7, Of::Other),
+    Given::WriteAt(7, Of::Plain, 1_000, Values::Number(42)),
+    Given::WriteAt(7, Of::Plain, 1_001, Values::Nothing),
+    Given::WriteAt(7, Of::Plain, 1_001, Values::Flag),
+    Given::WriteAt(255, Of::Noted, 1_002, Values::Number(1)),
+    Given::RegisterAt(0, Of::Plain),
+    Given::RegisterAt(256, Of::Other),
+    Given::WriteAt(300, Of::Wide, 1_003, Values::Wide),
+    Given::WriteAt(0, Of::Wide, 20_000_000, Values::Wide),
+    Given::WriteAt(7, Of::Plain, 20_000_000_000, Values::Number(u64::MAX)),
+];
+
+fn with_schemas(alloc: Global, given: &[Given]) -> Result<Vec<Call>, AllocError> {
     let plain = schema_of(alloc, "Ev", &[FieldType::Varint])?;
     let mut calls = Vec::new(alloc);
-    match push_given(alloc, &plain, &mut calls) {
+    match push_given(alloc, &plain, given, &mut calls) {
         Ok(()) => Ok(calls),
         Err(error) => Err(error),
     }
 }
 
-fn push_given(alloc: Global, plain: &Schema, calls: &mut Vec<Call>) -> Result<(), AllocError> {
-    for given in WITH_SCHEMAS {
-        calls.push(call_of(alloc, plain, *given)?)?;
+fn push_given(
+    alloc: Global,
+    plain: &Schema,
+    given: &[Given],
+    calls: &mut Vec<Call>,
+) -> Result<(), AllocError> {
+    for one in given {
+        calls.push(call_of(alloc, plain, *one)?)?;
     }
     Ok(())
 }
@@ -107,6 +132,12 @@ fn call_of(alloc: Global, plain: &Schema, given: Given) -> Result<Call, AllocErr
         Given::Write(of, time, values) => {
             let schema = schema(alloc, plain, of)?;
             Ok(Call::WriteEvent(schema, time, values_of(alloc, values)?))
+        }
+        Given::RegisterAt(slot, of) => Ok(Call::RegisterAt(slot, schema(alloc, plain, of)?)),
+        Given::WriteAt(slot, of, time, values) => {
+            let schema = schema(alloc, plain, of)?;
+            let values = values_of(alloc, values)?;
+            Ok(Call::WriteEventAt(slot, schema, time, values))
         }
     }
 }

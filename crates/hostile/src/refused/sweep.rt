@@ -8,7 +8,7 @@ use crate::refused::verdict::{Answer, Counts, Seen, Verdict, verdict_of};
 use std::alloc::{AllocError, Global};
 
 /// More growths than any call has.
-const MOST: u32 = 1_000_000;
+pub const MOST: u32 = 1_000_000;
 
 /// A call, with all that is to be before and after it.
 pub trait Trial {

@@ -1,13 +1,14 @@
 //! The calls that are tried, by kinds.
 
 use crate::calls::{all_owned, decoder_of};
+use crate::refused::all_frames::sweep_all_frames;
 use crate::refused::asks::{Ask, asks_of};
 use crate::refused::causes::sweep_causes;
 use crate::refused::copies::{sweep_frame, sweep_ref};
 use crate::refused::dumping::{DUMPS, Dump, dump_of};
 use crate::refused::encoding::{Hashing, InArray, InList, Turn, turn_of};
 use crate::refused::events::{push_types, push_types_that_own};
-use crate::refused::feeding::{Feeding, Form};
+use crate::refused::feeding::{FORMS, Feeding, Form};
 use crate::refused::free::{
     OfEncoders, OfRegistries, sweep_decoders, sweep_events, sweep_free_values,
 };
@@ -15,6 +16,7 @@ use crate::refused::known::{Again, events_again};
 use crate::refused::lists::list_of;
 use crate::refused::parts::{NewEncoder, sweep_registry, sweep_type};
 use crate::refused::plan::{Plan, plan_of};
+use crate::refused::raw::sweep_raw;
 use crate::refused::reading::Reading;
 use crate::refused::resolving::{sweep_fed, sweep_shown};
 use crate::refused::resuming::after_trace;
@@ -67,6 +69,8 @@ pub struct Tallies {
     pub values: Counts,
     /// Schemas, their parts, and registries.
     pub schemas: Counts,
+    /// Lists of all frames, which ask for room to spare.
+    pub all_frames: Counts,
     /// Calls that take no memory.
     pub free: Counts,
 }
@@ -92,6 +96,7 @@ impl Tallies {
             copies: none,
             values: none,
             schemas: none,
+            all_frames: none,
             free: none,
         }
     }
@@ -105,6 +110,8 @@ impl Tallies {
             self.try_calls(alloc, calls_of(alloc, *sample)?)?;
         }
         self.try_new(alloc);
+        sweep_raw(alloc, &mut self.list);
+        sweep_all_frames(alloc, &mut self.all_frames)?;
         sweep_free_values(alloc, &mut self.free);
         self.try_nested(alloc)
     }
@@ -144,6 +151,7 @@ impl Tallies {
     fn try_new(&mut self, alloc: Global) {
         sweep_made(alloc, &NewEncoder::OverList, &mut self.list);
         sweep_made(alloc, &NewEncoder::To, &mut self.list);
+        sweep_made(alloc, &NewEncoder::Reset, &mut self.list);
         sweep_made(alloc, &NewEncoder::WithHasher(self.state), &mut self.seeded);
         sweep_made(
             alloc,
@@ -277,8 +285,9 @@ impl Tallies {
 
     /// Has a decoder be fed a trace in two pieces.
     fn try_feeders(&mut self, alloc: Global, reference: &Reference<'_>) {
-        self.try_feeder(alloc, reference, Form::Feed);
-        self.try_feeder(alloc, reference, Form::Push);
+        for form in FORMS {
+            self.try_feeder(alloc, reference, *form);
+        }
     }
 
     fn try_feeder(&mut self, alloc: Global, reference: &Reference<'_>, form: Form) {

@@ -68,6 +68,17 @@ pub fn verdict_of(seen: Seen) -> Verdict
     }
 }
 
+/// What calls of a kind do with memory.
+#[derive(Clone, Copy)]
+pub enum Need {
+    /// They take some, and tell where there is none.
+    Memory,
+    /// They ask for more than they need, and go on with less.
+    Spare,
+    /// They take none.
+    Nothing,
+}
+
 /// How many calls were tried, and how many had each verdict.
 #[derive(Clone, Copy)]
 pub struct Counts {
@@ -107,17 +118,18 @@ impl Counts {
     }
 
     /// Whether all is right: nothing was wrong, and where growths were refused, that was told at least once of calls
-    /// that take memory, and of others never met.
-    pub fn is_right(&self, refuses: bool, takes_memory: bool) -> bool
-        ensures { IsTrue result ↔ IsRight refuses takes_memory self.now }
+    /// that need memory; absorbed at least once, and never told, of those that ask for room to spare; and of others
+    /// never met.
+    pub fn is_right(&self, refuses: bool, need: Need) -> bool
+        ensures { IsTrue result ↔ IsRight refuses need self.now }
     {
         if self.wrong > 0 {
             return false;
         }
-        if takes_memory {
-            !refuses || self.told > 0
-        } else {
-            self.told == 0 && self.absorbed == 0
+        match need {
+            Need::Memory => !refuses || self.told > 0,
+            Need::Spare => self.told == 0 && (!refuses || self.absorbed > 0),
+            Need::Nothing => self.told == 0 && self.absorbed == 0,
         }
     }
 }

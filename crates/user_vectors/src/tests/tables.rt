@@ -16,7 +16,7 @@ use trace_values::types::FieldType;
 use trace_wire::schema::{FieldDef, SchemaEntry};
 
 /// Traces in hexadecimal digits, each with the rows of its events.
-const ROWS: [(&str, &str); 10] = [
+pub const ROWS: [(&str, &str); 10] = [
     // one number
     (
         "54524300010100010200457601010001007609020001e803002a",
