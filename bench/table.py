@@ -1,9 +1,9 @@
 #!/usr/bin/env python3
 """Makes tables of docs/SPEED.md of what `count.py` printed.
 
-table.py [--aims] COUNTS ..
-    The rows, bad ones first. Each of COUNTS is a file, and a later one's rows stand in place of an earlier one's. Rows
-    of the original alone count as the fewest of them, and so do those that stand beside rows of the library.
+table.py [--aims] [--older=COUNTS] COUNTS ..
+    The rows, bad ones first. Each of COUNTS is a file. Of the library's rows a later one stands in place of an earlier
+    one, and of the original's the least. Those that only --older has are marked by *.
     With --aims the aims, and the rows that miss them; of an aim that many miss, they stand below the table.
 """
 import re
@@ -148,7 +148,10 @@ def aims(found):
 
 
 def main():
-    found = rows([it for it in sys.argv[1:] if it != "--aims"])
+    named = [it.removeprefix("--older=") for it in sys.argv[1:] if it != "--aims"]
+    fresh = rows([it for it in sys.argv[1:] if not it.startswith("--")])
+    # (an older file is named first)
+    found = rows(named)
     if "--aims" in sys.argv:
         aims(found)
         return
@@ -156,7 +159,8 @@ def main():
     for name, (original, here) in sorted(found.items(), key=lambda row: -row[1][1] / row[1][0]):
         call, of = row_of(name)
         shown = call if " " in call and "`" not in call else f"`{call}`"
-        print(f"| {shown} | {of} | {original:,.0f} | {here:,.0f} | {here / original:.2f} |")
+        mark = "" if name in fresh else "*"
+        print(f"| {shown} | {of} | {original:,.0f} | {here:,.0f}{mark} | {here / original:.2f} |")
 
 
 main()
