@@ -1,12 +1,14 @@
 #!/usr/bin/env python3
-"""Makes the table of docs/SPEED.md, bad rows first, of what `count.py` printed.
+"""Makes tables of docs/SPEED.md of what `count.py` printed.
 
-table.py COUNTS ..
-    Each a file. A later one's rows stand in place of an earlier one's. Rows of the original alone, as of a build in
-    another folder, count where they are fewer.
+table.py [--aims] [--older=COUNTS] COUNTS ..
+    The rows, bad ones first. Each of COUNTS is a file. Of the library's rows a later one stands in place of an earlier
+    one, and of the original's the least. Those that only --older has are marked by *.
+    With --aims the aims, and the rows that miss them; of an aim that many miss, they stand below the table.
 """
 import re
 import sys
+import textwrap
 
 WORKS = {
     "varint3": "three numbers", "stacks": "a stack of 32 and a text", "nested": "a nested list and map",
@@ -29,7 +31,12 @@ WRITES = {
     "known-stack": ("intern_stack_frames", "a known stack of 32"),
     "new-stack": ("intern_stack_frames", "a new stack of 32"),
     "slot-wide": ("write", "U8, PooledString, Varint, by a slot"),
+    "slot-sample": ("write", "a stack of 32 and a text, by a slot"),
+    "name-sample": ("write", "a stack of 32 and a text, by a name"),
+    "name-wide": ("write", "U8, PooledString, Varint, by a name"),
     "known-event": ("write_known_event", "three numbers"), "known-slot": ("write_known", "three numbers"),
+    "known-wide": ("write_known", "U8, PooledString, Varint"),
+    "known-sample": ("write_known", "a stack of 32 and a text"),
 }
 WAYS = {
     "clone": "DecodedFrame::clone", "eq": "DecodedFrame`: `==", "ref_clone": "DecodedFrameRef::clone",
@@ -65,30 +72,95 @@ def row_of(name):
     if of in SIZES:
         return call, SIZES[of]
     if call == "write":
-        return WRITES[of] if of in WRITES else ("write_event", WORKS[of])
+        if of in WRITES:
+            return WRITES[of]
+        known = of.startswith("known-")
+        return ("write_known_event" if known else "write_event"), WORKS[of.removeprefix("known-")]
     return WAYS.get(call, call), WORKS[of]
 
 
-def rows():
-    found, alone = {}, {}
-    for path in sys.argv[1:]:
+# The aims of calls: for every workload, and for three numbers
+AIMS = {
+    "write_event": (0.90, 0.80), "write` by a slot": (0.90, 0.85), "write` by a name": (0.65, 0.62),
+    "write_known": (0.80, 0.60), "write_known_event": (0.80, 0.62), "next_frame": (0.90, 0.62),
+    "decode_all": (0.90, 0.65), "next_frame_ref": (0.85, 0.58), "decode_all_ref": (0.85, 0.62),
+    "for_each_event": (0.80, 0.52), "next_event_into": (0.85, 0.40), "next_event_ref_into": (0.85, 0.40),
+}
+# Those of the others, of which no row is to be above the original
+OTHERS = {
+    "FieldValue::encode": "`encode`", "FieldValue::decode": "`decode`", "FieldValueRef::decode": "`decode`, borrowed",
+    "FieldValue::clone": "`clone`", "FieldValueRef::clone": "`clone`, borrowed",
+    "FieldValueRef::to_owned": "`to_owned`", "FieldValue`: `==": "`==`", "FieldValueRef`: `==": "`==`, borrowed",
+    "iterators": "iterators", "a sink over items and pairs": "iterators",
+    "DecodedFrame::clone": "`clone` of frames", "DecodedFrameRef::clone": "`clone` of frames",
+    "DecodedFrame`: `==": "`==` of frames", "DecodedFrameRef`: `==": "`==` of frames",
+    "RawEvent::resolve": "`RawEvent::resolve`",
+    "write_event` into a `BufWriter": "a writer that is no `Vec`",
+    "write_event` into `Plain": "a writer that is no `Vec`",
+}
+REST = "pools, interning, registering, small traces, numbers"
+
+
+def rows(paths):
+    """What both took, by the name of the row: of the original the least that was counted."""
+    original, here = {}, {}
+    for path in paths:
         with open(path, encoding="utf-8") as file:
             for line in file:
-                numbers = re.match(r"(.*?) +orig +([\d.]+)(?: port +([\d.]+))?", line)
-                if numbers and numbers[3]:
-                    found[numbers[1]] = (float(numbers[2]), float(numbers[3]))
-                elif numbers:
-                    alone.setdefault(numbers[1], []).append(float(numbers[2]))
-    return {name: (min([original, *alone.get(name, [])]), here) for name, (original, here) in found.items()}
+                name = re.match(r"(.*?) +(?:orig|port) ", line)[1]
+                for who, count in re.findall(r"(orig|port) +([\d.]+)", line):
+                    if who == "port":
+                        here[name] = float(count)
+                    else:
+                        original[name] = min(float(count), original.get(name, float("inf")))
+    return {name: (original[name], count) for name, count in here.items() if name in original}
+
+
+def aim_of(call, of):
+    """The name of the aim that a row has, its greatest ratio, and that of three numbers."""
+    if call == "write":
+        call += "` by a name" if of.endswith("by a name") else "` by a slot"
+    if call in AIMS and "whole" not in of and "pool of 10,000" not in of:
+        return f"`{call}`" if "` by" not in call else f"`{call}", *AIMS[call]
+    return OTHERS.get(call, REST), 1.00, None
+
+
+def aims(found):
+    """The table of the aims: in the order of the tables above, with what misses each."""
+    missed = {f"`{call}`" if "` by" not in call else f"`{call}": (*aim, []) for call, aim in AIMS.items()}
+    missed.update({name: (1.00, None, []) for name in [*OTHERS.values(), REST]})
+    for name, (original, here) in sorted(found.items(), key=lambda row: -row[1][1] / row[1][0]):
+        call, of = row_of(name)
+        aim, most, three = aim_of(call, of)
+        if round(here / original, 2) > (three if three and of.startswith("three numbers") else most):
+            what = re.sub(", (alone|by a slot|by a name)$", "", of)
+            missed[aim][2].append(what if aim != REST else f"`{call}` of {what}")
+    print("| Call | Aim | Three numbers | Misses |\n|---|---|---|---|")
+    below = []
+    for aim, (most, three, what) in missed.items():
+        named = "; ".join(dict.fromkeys(what)) or "none"
+        row = f"| {aim} | {most:.2f} | {f'{three:.2f}' if three else ''} | "
+        if len(row + named) > 155:
+            below.append(textwrap.fill(f"- {aim}: {named}.", 120, subsequent_indent="  ", break_on_hyphens=False))
+            named = f"{len(dict.fromkeys(what))}, below"
+        print(f"{row}{named} |")
+    print("", *below, sep="\n")
 
 
 def main():
-    found = rows()
+    named = [it.removeprefix("--older=") for it in sys.argv[1:] if it != "--aims"]
+    fresh = rows([it for it in sys.argv[1:] if not it.startswith("--")])
+    # (an older file is named first)
+    found = rows(named)
+    if "--aims" in sys.argv:
+        aims(found)
+        return
     print("| Call | Of | Original | Here | Ratio |\n|---|---|---|---|---|")
     for name, (original, here) in sorted(found.items(), key=lambda row: -row[1][1] / row[1][0]):
         call, of = row_of(name)
         shown = call if " " in call and "`" not in call else f"`{call}`"
-        print(f"| {shown} | {of} | {original:,.0f} | {here:,.0f} | {here / original:.2f} |")
+        mark = "" if name in fresh else "*"
+        print(f"| {shown} | {of} | {original:,.0f} | {here:,.0f}{mark} | {here / original:.2f} |")
 
 
 main()

@@ -4,7 +4,8 @@ use dial9_trace_format::schema::FieldDef;
 use dial9_trace_format::types::{FieldType as T, FieldValue as V, StackFrames};
 
 /// Their names, in the order of their numbers.
-pub const TRACES: [&str; 9] = ["f1", "f8", "f16", "f64", "text1k", "stack1", "stack128", "list100", "smap"];
+pub const TRACES: [&str; 10] =
+    ["f1", "f8", "f16", "f64", "text1k", "stack1", "stack128", "list100", "smap", "text64k"];
 
 pub fn step(time: u64, i: u64) -> u64 {
     time.wrapping_add(1000 + (i & 0xff))
@@ -53,6 +54,7 @@ pub fn written(trace: u32, count: u64) -> Vec<u8> {
         5 => stacks(1, count),
         6 => stacks(128, count),
         7 => repeated(&[("list", T::DynamicList)], &[V::List(numbers(100))], count),
-        _ => maps(count),
+        8 => maps(count),
+        _ => texts(65536, count),
     }
 }

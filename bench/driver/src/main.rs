@@ -138,7 +138,12 @@ fn main() {
                 }
             }
             for (trace, name) in extra::TRACES.iter().enumerate().filter(|trace| trace.1.contains(&only)) {
-                let m = n / if ["f1", "stack1", "smap"].contains(name) { 2 } else { 20 } + 1;
+                let share = match *name {
+                    "f1" | "stack1" | "smap" => 2,
+                    "text64k" => 2000,
+                    _ => 20,
+                };
+                let m = n / share + 1;
                 time_reading(k, name, &extra::written(trace as u32, m), m);
             }
         }

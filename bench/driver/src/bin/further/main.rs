@@ -26,6 +26,16 @@ unsafe extern "C" {
     fn port_x_alone(form: u32, kind: u32, turns: u64) -> u64;
 }
 
+/// The traces that are read in all ways, and those that are read only into a list that the caller keeps.
+const ALL_WAYS: [&str; 9] = ["varint3", "stacks", "nested", "pooled", "fixed", "smap", "list100", "stack128", "f16"];
+const INTO_ALONE: [&str; 8] = ["f1", "f8", "f64", "text1k", "text64k", "stack1", "two", "robin1000"];
+
+/// Whether this trace is read in this way.
+fn is_read(name: &str, way: &str) -> bool {
+    // (the ids of these traces are not in their pools)
+    let resolves = way != "resolve" || !["fixed", "pooled"].contains(&name);
+    if ALL_WAYS.contains(&name) { resolves } else { way.starts_with("next_event") }
+}
 fn place(names: &[&str], name: &str) -> u32 {
     names.iter().position(|x| *x == name).unwrap_or_else(|| panic!("no {name}")) as u32
 }
@@ -80,13 +90,9 @@ fn main() {
                 let same = hash_of(&o) == unsafe { port_x_write(work as u32, 50, 1) };
                 println!("{name:16} bytes {} {}", o.len(), if same { "same" } else { "DIFFER" });
             }
-            for name in ["varint3", "stacks", "nested", "pooled", "fixed", "smap", "list100", "stack128", "f16"] {
+            for name in ALL_WAYS.iter().chain(&INTO_ALONE) {
                 let data = any(name, 200);
-                for (form, way) in more::READS.iter().enumerate() {
-                    // (the ids of these traces are not in their pools)
-                    if *way == "resolve" && ["fixed", "pooled"].contains(&name) {
-                        continue;
-                    }
+                for (form, way) in more::READS.iter().enumerate().filter(|(_, way)| is_read(name, way)) {
                     let (o, p) = (more::read(form as u32, 2, &data), unsafe {
                         port_x_read(form as u32, 2, data.as_ptr(), data.len())
                     });
@@ -109,8 +115,8 @@ fn main() {
             let (k, n): (usize, u64) = (a[1].parse().unwrap(), a[2].parse().unwrap());
             let only = a.get(3).cloned().unwrap_or_default();
             time_writing(k, n, &only);
-            for name in ["varint3", "stacks", "nested", "pooled", "fixed", "smap", "list100", "stack128", "f16"] {
-                time_ways(k, n / 20 + 1, name, &only);
+            for name in ALL_WAYS.iter().chain(&INTO_ALONE) {
+                time_ways(k, n / if *name == "text64k" { 400 } else { 20 } + 1, name, &only);
             }
             for (form, f) in more::FORMS.iter().enumerate() {
                 for (kind, name) in more::KINDS.iter().enumerate() {
@@ -133,9 +139,10 @@ fn main() {
 fn time_writing(k: usize, n: u64, only: &str) {
     for (w, name) in more::WORKS.iter().enumerate() {
         let w = w as u32;
-        let m = if *name == "text64k" {
+        let of = name.trim_start_matches("known-");
+        let m = if of == "text64k" {
             n / 400 + 1
-        } else if ["f64", "text1k", "stack128", "list100", "small10", "reset10", "spool64"].contains(name) {
+        } else if ["f64", "text1k", "stack128", "list100", "small10", "reset10", "spool64"].contains(&of) {
             n / 20 + 1
         } else {
             n / 2
@@ -153,10 +160,7 @@ fn time_ways(k: usize, events: u64, name: &str, only: &str) {
     let data = any(name, events);
     for (form, way) in more::READS.iter().enumerate() {
         let label = format!("{way} {name}");
-        if !label.contains(only)
-            || ["into_encoder", "open+sink"].contains(way)
-            || *way == "resolve" && ["fixed", "pooled"].contains(&name)
-        {
+        if !label.contains(only) || ["into_encoder", "open+sink"].contains(way) || !is_read(name, way) {
             continue;
         }
         let form = form as u32;

@@ -1,22 +1,28 @@
 //! Further workloads, over the original. `library/bench_x` has the same over the library: wide events, long texts,
 //! stacks, lists and maps of texts, small traces, other writers, pools, copies, equality, iterators, resolved events.
-use crate::extra::{many, numbers, repeated, step, texts};
+use crate::extra::{numbers, repeated, step};
 use crate::writing::slot_polls;
 use dial9_trace_format::codec::PoolEntry;
 use dial9_trace_format::decoder::{DecodedFrame, DecodedFrameRef, Decoder, RawEvent};
 use dial9_trace_format::encoder::{Encoder, Schema};
 use dial9_trace_format::schema::FieldDef;
-use dial9_trace_format::types::{FieldType as T, FieldValue as V, FieldValueRef as R, InternedString, StackFrames};
+use dial9_trace_format::types::{FieldType as T, FieldValue as V, FieldValueRef as R};
+use dial9_trace_format::types::{InternedStackFrames, InternedString, StackFrames};
 use dial9_trace_format::{EventEncoder, TraceEvent, TraceField};
 use std::hint::black_box;
 use std::io::{self, BufWriter, Write};
 
-/// The names of the workloads of writing, in the order of their numbers. The first ten are traces, and read too.
-pub const WORKS: [&str; 24] = [
+/// The names of the workloads of writing, in the order of their numbers. The first ten are traces, and read too. From
+/// `KNOWN` on they are those of `parts`.
+pub const WORKS: [&str; 44] = [
     "f1", "f8", "f16", "f64", "text1k", "text64k", "stack1", "stack128", "list100", "smap", "small10", "reset10",
     "bufwriter", "plainvec", "spool64", "encode-num", "encode-text", "encode-list", "known-stack", "new-stack",
-    "slot-wide", "f0", "known-event", "known-slot",
+    "slot-wide", "f0", "known-event", "known-slot", "slot-sample", "name-sample", "name-wide", "known-wide",
+    "known-sample", "known-f1", "known-f8", "known-f16", "known-f64", "known-text1k", "known-text64k", "known-stack1",
+    "known-stack128", "known-list100", "known-smap", "known-f0", "known-stacks", "known-nested", "known-pooled",
+    "known-fixed",
 ];
+const KNOWN: u32 = 29;
 /// The names of the ways of reading, in the order of their numbers.
 pub const READS: [&str; 11] = [
     "iterate", "to_owned", "resolve", "clone", "eq", "ref_clone", "ref_eq", "into_encoder", "open+sink",
@@ -38,9 +44,6 @@ fn addresses(n: u64) -> Vec<u64> {
 }
 fn stack(n: u64) -> V {
     V::StackFrames(StackFrames(addresses(n)))
-}
-fn stacks(n: u64, count: u64) -> Vec<u8> {
-    repeated(&[("stack", T::StackFrames)], &[stack(n)], count)
 }
 fn pairs() -> V {
     let pair = |k: &str, v: &str| (k.as_bytes().to_vec(), v.as_bytes().to_vec());
@@ -140,18 +143,19 @@ fn new_stacks(count: u64) -> Vec<u8> {
     }
     e.finish()
 }
-struct Wide {
+/// Of slot 0 it has none, and is known by its name.
+struct Wide<const SLOT: u16> {
     time: u64,
     worker: u8,
     name: InternedString,
     spent: u64,
 }
-impl TraceEvent for Wide {
+impl<const SLOT: u16> TraceEvent for Wide<SLOT> {
     fn type_slot() -> u16 {
-        9
+        SLOT
     }
     fn event_name() -> &'static str {
-        "Wide"
+        if SLOT == 0 { "NameWide" } else { "Wide" }
     }
     fn field_defs() -> Vec<FieldDef> {
         vec![FieldDef::new("worker", T::U8), FieldDef::new("name", T::PooledString), FieldDef::new("spent", T::Varint)]
@@ -165,13 +169,48 @@ impl TraceEvent for Wide {
         self.spent.encode(enc)
     }
 }
-fn wides(count: u64) -> Vec<u8> {
+fn wides<const SLOT: u16>(count: u64) -> Vec<u8> {
     let mut e = Encoder::new();
     let mut time = 0;
     for i in 0..count {
         time = step(time, i);
         let name = InternedString::from_raw((i & 63) as u32);
-        e.write(&Wide { time, worker: (i & 7) as u8, name, spent: i.wrapping_mul(40503) & 0xf_ffff }).unwrap();
+        let spent = i.wrapping_mul(40503) & 0xf_ffff;
+        e.write(&Wide::<SLOT> { time, worker: (i & 7) as u8, name, spent }).unwrap();
+    }
+    e.finish()
+}
+/// A stack and a text.
+struct Sample<const SLOT: u16> {
+    time: u64,
+    frames: StackFrames,
+    text: String,
+}
+impl<const SLOT: u16> TraceEvent for Sample<SLOT> {
+    fn type_slot() -> u16 {
+        SLOT
+    }
+    fn event_name() -> &'static str {
+        if SLOT == 0 { "NameSample" } else { "SlotSample" }
+    }
+    fn field_defs() -> Vec<FieldDef> {
+        vec![FieldDef::new("stack", T::StackFrames), FieldDef::new("text", T::String)]
+    }
+    fn timestamp(&self) -> u64 {
+        self.time
+    }
+    fn encode_fields<W: io::Write>(&self, enc: &mut EventEncoder<'_, W>) -> io::Result<()> {
+        self.frames.encode(enc)?;
+        self.text.encode(enc)
+    }
+}
+fn samples<const SLOT: u16>(count: u64) -> Vec<u8> {
+    let mut e = Encoder::new();
+    let frames = StackFrames(addresses(32));
+    let mut event = Sample::<SLOT> { time: 0, frames, text: "some::module::task_number".to_string() };
+    for i in 0..count {
+        event.time = step(event.time, i);
+        e.write(&event).unwrap();
     }
     e.finish()
 }
@@ -185,19 +224,58 @@ fn known_events(count: u64) -> Vec<u8> {
 fn nested_value() -> V {
     V::List(vec![V::Varint(1), V::Bool(true), V::string("inner text"), V::List(vec![V::Varint(300), V::Varint(7)])])
 }
+fn map_value() -> V {
+    V::Map(vec![
+        (V::string("first"), V::Varint(5)),
+        (V::string("second"), V::Varint(70000)),
+        (V::string("third"), V::Bool(true)),
+    ])
+}
+/// The fields and values of an event that is written again and again.
+fn parts(of: u32) -> Vec<(&'static str, T, V)> {
+    let many = |n| numbers(n).into_iter().map(|v| ("field", T::Varint, v)).collect();
+    match of {
+        0 => many(1),
+        1 => many(8),
+        2 => many(16),
+        3 => many(64),
+        4 => vec![("text", T::String, V::String("x".repeat(1024)))],
+        5 => vec![("text", T::String, V::String("x".repeat(65536)))],
+        6 => vec![("stack", T::StackFrames, stack(1))],
+        7 => vec![("stack", T::StackFrames, stack(128))],
+        8 => vec![("list", T::DynamicList, V::List(numbers(100)))],
+        9 => vec![("map", T::StringMap, pairs())],
+        10 => many(0),
+        11 => vec![
+            ("stack", T::StackFrames, stack(32)),
+            ("text", T::String, V::string("some::module::task_number")),
+        ],
+        12 => vec![("list", T::DynamicList, nested_value()), ("map", T::DynamicMap, map_value())],
+        13 => vec![
+            ("worker", T::Varint, V::Varint(7)),
+            ("name", T::PooledString, V::PooledString(InternedString::from_raw(63))),
+            ("stack", T::PooledStackFrames, V::PooledStackFrames(InternedStackFrames::from_raw(40503))),
+            ("wait", T::OptionalVarint, V::Varint(40503)),
+        ],
+        _ => vec![
+            ("a", T::I64, V::I64(-5)),
+            ("b", T::F64, V::F64(1.0)),
+            ("c", T::Bool, V::Bool(true)),
+            ("d", T::PooledString, V::PooledString(InternedString::from_raw(77))),
+            ("e", T::Bytes, V::Bytes(b"0123456789abcdef".to_vec())),
+        ],
+    }
+}
+fn repeats(of: u32, count: u64) -> Vec<u8> {
+    let parts = parts(of);
+    let fields: Vec<_> = parts.iter().map(|part| (part.0, part.1)).collect();
+    let values: Vec<_> = parts.into_iter().map(|part| part.2).collect();
+    repeated(&fields, &values, count)
+}
 /// What a workload writes.
 pub fn written(work: u32, count: u64) -> Vec<u8> {
     match work {
-        0 => many(1, count),
-        1 => many(8, count),
-        2 => many(16, count),
-        3 => many(64, count),
-        4 => texts(1024, count),
-        5 => texts(65536, count),
-        6 => stacks(1, count),
-        7 => stacks(128, count),
-        8 => repeated(&[("list", T::DynamicList)], &[V::List(numbers(100))], count),
-        9 => repeated(&[("map", T::StringMap)], &[pairs()], count),
+        0..=9 => repeats(work, count),
         10 => small10(count),
         11 => reset10(count),
         12 => buffered(count),
@@ -208,10 +286,14 @@ pub fn written(work: u32, count: u64) -> Vec<u8> {
         17 => encodes(&nested_value(), count),
         18 => known_stacks(count),
         19 => new_stacks(count),
-        20 => wides(count),
-        21 => many(0, count),
+        20 | 27 => wides::<9>(count),
+        21 => repeats(10, count),
         22 => known_events(count),
-        _ => slot_polls(count),
+        23 => slot_polls(count),
+        24 | 28 => samples::<8>(count),
+        25 => samples::<0>(count),
+        26 => wides::<0>(count),
+        _ => repeats(work - KNOWN, count),
     }
 }
 
@@ -326,14 +408,7 @@ fn value_of(kind: u32) -> (T, V) {
         8 => (T::StackFrames, stack(128)),
         9 => (T::StringMap, pairs()),
         10 => (T::DynamicList, nested_value()),
-        11 => {
-            let pairs = vec![
-                (V::string("first"), V::Varint(5)),
-                (V::string("second"), V::Varint(70000)),
-                (V::string("third"), V::Bool(true)),
-            ];
-            (T::DynamicMap, V::Map(pairs))
-        }
+        11 => (T::DynamicMap, map_value()),
         _ => (T::DynamicList, V::List(numbers(100))),
     }
 }
