@@ -3,6 +3,7 @@
 mod batches;
 mod conversions;
 mod cuts;
+mod definitions;
 mod folded;
 mod fronts;
 mod json_lines;

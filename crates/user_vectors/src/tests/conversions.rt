@@ -81,8 +81,15 @@ const NUMBER: [u8; 25] = [
     b'f', 0x09, 0x02, 0x00, 0x01, 0x00, 0x00, 0x00, 0x07,
 ];
 
-/// How many bytes are written where a rule keeps the field so often.
-fn count_kept(rt: &impl Abort, alloc: Global, count: usize) -> usize {
+/// The text `a`, and an event of it.
+const TEXT: [u8; 42] = [
+    0x54, 0x52, 0x43, 0x00, 0x01, 0x03, 0x01, 0x00, 0x00, 0x00, 0x00, 0x00, 0x00, 0x00, 0x01, 0x00,
+    0x00, 0x00, b'a', 0x01, 0x00, 0x01, 0x01, 0x00, b'K', 0x01, 0x01, 0x00, 0x01, 0x00, b'f', 0x07,
+    0x02, 0x00, 0x01, 0x00, 0x00, 0x00, 0x00, 0x00, 0x00, 0x00,
+];
+
+/// How many bytes are written of this event where a rule keeps the field so often.
+fn count_kept(rt: &impl Abort, alloc: Global, event: &[u8], count: usize) -> usize {
     let mut fields = Vec::new(alloc);
     for _ in 0..count {
         fields.push(("f", "g")).expect(rt, "memory");
@@ -93,13 +100,23 @@ fn count_kept(rt: &impl Abort, alloc: Global, count: usize) -> usize {
         slot: 0,
         fields: &fields,
     }];
-    let (found, _) = converted(rt, alloc, &NUMBER, &rules);
+    let (found, _) = converted(rt, alloc, event, &rules);
     found.len()
 }
 
 /// They are as many as docs/FORMAT.md says.
 fn is_kept(rt: &impl Abort, alloc: Global, count: usize) -> bool {
-    count_kept(rt, alloc, count) == count.saturating_mul(5).saturating_add(20)
+    count_kept(rt, alloc, &NUMBER, count) == count.saturating_mul(5).saturating_add(20)
+}
+
+/// The same of the text, which is there once.
+fn is_text_kept(rt: &impl Abort, alloc: Global, count: usize) -> bool {
+    let wanted = if count == 0 {
+        20
+    } else {
+        count.saturating_mul(8).saturating_add(34)
+    };
+    count_kept(rt, alloc, &TEXT, count) == wanted
 }
 
 /// How many bytes are written of that event by a rule of this slot whose new schema and its field have this name.
@@ -138,5 +155,15 @@ fn rules_of_each_count_of_fields(rt: HostRuntime) {
     }
     for count in [4_096, 4_097, 65_535] {
         assert!(rt; is_kept(&rt, rt.alloc(), count));
+    }
+}
+
+#[test]
+fn rules_of_each_count_of_texts(rt: HostRuntime) {
+    for count in 0..301 {
+        assert!(rt; is_text_kept(&rt, rt.alloc(), count));
+    }
+    for count in [4_096, 4_097, 65_535] {
+        assert!(rt; is_text_kept(&rt, rt.alloc(), count));
     }
 }
