@@ -1,6 +1,6 @@
 //! A trace that is fed in pieces.
 
-use crate::tests::ample::fed::{is_fed, is_pulled};
+use crate::tests::ample::fed::{Pulled, is_fed, is_pulled};
 use crate::tests::calls::{all_of, decoder_of, next};
 use crate::tests::traces::{CONFLICT, HEADER, ONE_EVENT, THREE_EVENTS};
 use dial9_trace_format::codec::WireTypeId;
@@ -94,7 +94,9 @@ const TRACES: [&[u8]; 4] = [&ONE_EVENT, &THREE_EVENTS, &CONFLICT, &TWO_SCHEMAS];
 /// Fed or pulled in pieces of a length, the trace gives the frames that it gives at once, to its end.
 fn gives_as_many(rt: &impl Abort, alloc: Global, bytes: &[u8], length: usize) -> bool {
     let frames = all_of(rt, alloc, bytes);
-    is_fed(rt, alloc, bytes, length, &frames) && is_pulled(rt, alloc, bytes, length, &frames)
+    is_fed(rt, alloc, bytes, length, &frames)
+        && is_pulled(rt, alloc, bytes, length, &frames, Pulled::Dropped)
+        && is_pulled(rt, alloc, bytes, length, &frames, Pulled::Reused)
 }
 
 #[test]

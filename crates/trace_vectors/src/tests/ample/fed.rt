@@ -33,6 +33,15 @@ fn is_resolved(
     resolved == matches!(frame, DecodedFrame::Event { .. })
 }
 
+/// What becomes of a frame that was pulled.
+#[derive(Clone, Copy)]
+pub enum Pulled {
+    /// It is dropped.
+    Dropped,
+    /// The decoder takes it back.
+    Reused,
+}
+
 /// Pushed in pieces of this length and pulled one by one, a decoder gives these frames, to the end, and resolves the
 /// events.
 pub fn is_pulled(
@@ -41,6 +50,7 @@ pub fn is_pulled(
     bytes: &[u8],
     length: usize,
     frames: &[DecodedFrame],
+    then: Pulled,
 ) -> bool {
     let mut decoder = FeedDecoder::new(alloc);
     let mut wanted = frames.iter();
@@ -52,6 +62,9 @@ pub fn is_pulled(
             };
             if wanted.next() != Some(&frame) || !is_resolved(rt, alloc, &decoder, &frame) {
                 return false;
+            }
+            if let Pulled::Reused = then {
+                decoder.reuse(frame);
             }
         }
     }
