@@ -26,6 +26,7 @@ mod registry;
 mod resolved;
 mod resuming;
 mod sending;
+mod shown;
 mod sinks;
 mod slots;
 mod sticking;

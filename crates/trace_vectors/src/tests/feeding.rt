@@ -1,10 +1,14 @@
 //! A trace that is fed in pieces.
 
 use crate::tests::ample::fed::{Pulled, is_fed, is_pulled};
-use crate::tests::calls::{all_of, decoder_of, next};
-use crate::tests::traces::{CONFLICT, HEADER, ONE_EVENT, THREE_EVENTS};
+use crate::tests::ample::schemas::fields;
+use crate::tests::ample::{COUNTS, text};
+use crate::tests::calls::{all_of, decoder_of, fresh, next};
+use crate::tests::traces::{CONFLICT, HEADER, ONE_EVENT, THREE_EVENTS, one_field};
 use dial9_trace_format::codec::WireTypeId;
 use dial9_trace_format::decoder::{DecodeErrorKind, DecodedFrame, Decoder, FeedDecoder};
+use dial9_trace_format::encoder::Schema;
+use dial9_trace_format::types::{FieldType, FieldValue};
 use std::alloc::Global;
 use std::process::Abort;
 
@@ -105,6 +109,57 @@ fn in_any_pieces(rt: HostRuntime) {
         for length in 1..8 {
             assert!(rt; gives_as_many(&rt, rt.alloc(), bytes, length));
         }
+    }
+}
+
+/// A trace of two events of the schema with these values.
+fn two_events(rt: &impl Abort, alloc: Global, schema: &Schema, values: &[FieldValue]) -> Vec<u8> {
+    let mut encoder = fresh(rt, alloc);
+    for _ in 0..2 {
+        encoder
+            .write_event(schema, 0, values)
+            .expect(rt, "no refusal");
+    }
+    encoder.finish()
+}
+
+/// A trace of two events of a text of this size.
+fn two_texts(rt: &impl Abort, alloc: Global, size: usize) -> Vec<u8> {
+    let schema = one_field(rt, alloc, "S", "s", FieldType::String);
+    let value = FieldValue::String(text(rt, alloc, size));
+    two_events(rt, alloc, &schema, &[value])
+}
+
+#[test]
+fn in_large_pieces(rt: HostRuntime) {
+    let bytes = two_texts(&rt, rt.alloc(), 300_000);
+    for length in [70_000, 100_000, 299_999, 500_000usize] {
+        assert!(rt; gives_as_many(&rt, rt.alloc(), bytes.as_slice(), length));
+    }
+}
+
+/// So many values that are absent.
+fn absent(rt: &impl Abort, alloc: Global, count: usize) -> Vec<FieldValue> {
+    let mut values = Vec::new(alloc);
+    for _ in 0..count {
+        values.push(FieldValue::None).expect(rt, "memory");
+    }
+    values
+}
+
+/// A trace of two events of so many fields without values.
+fn two_wide(rt: &impl Abort, alloc: Global, count: usize) -> Vec<u8> {
+    let fields = fields(rt, alloc, count, FieldType::OptionalU8);
+    let schema = Schema::new(alloc, "S", fields).expect(rt, "memory");
+    let values = absent(rt, alloc, count);
+    two_events(rt, alloc, &schema, values.as_slice())
+}
+
+#[test]
+fn wide_events(rt: HostRuntime) {
+    for count in COUNTS {
+        let bytes = two_wide(&rt, rt.alloc(), count);
+        assert!(rt; gives_as_many(&rt, rt.alloc(), bytes.as_slice(), 10_000));
     }
 }
 

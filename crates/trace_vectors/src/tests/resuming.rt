@@ -25,10 +25,11 @@ fn encoder_after(rt: &impl Abort, alloc: Global) -> Encoder {
     into_encoder(rt, alloc, decoder)
 }
 
-/// Writes an event of `S` without a value.
+/// Writes an event of `S` without a value, whose schema the encoder then knows.
 fn put_absent(rt: &impl Abort, alloc: Global, encoder: &mut Encoder) {
     let schema = one_field(rt, alloc, "S", "o", FieldType::OptionalU8);
-    put_one(rt, encoder, &schema, 0, FieldValue::None)
+    put_one(rt, encoder, &schema, 0, FieldValue::None);
+    assert!(rt; encoder.known_schema(&schema) == Some(256));
 }
 
 #[test]
