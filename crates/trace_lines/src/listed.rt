@@ -63,14 +63,6 @@ impl<'a> FieldForm<'a> for ListedValue<'a> {
 
     ghost value = { listed_value };
 
-    fn push_quick_field_at(
-        _: FieldType,
-        _: &'a [u8],
-        _: &mut Vec<ListedValue<'a>>,
-    ) -> Result<Option<&'a [u8]>, Stop> {
-        Ok(None)
-    }
-
     fn push_any_field_at(
         alloc: Global,
         field_type: FieldType,
@@ -94,6 +86,10 @@ impl<'a> FieldForm<'a> for ListedValue<'a> {
             }
             Err(_) => unreachable!(),
         }
+    }
+
+    fn of_number(given: u64) -> ListedValue<'a> {
+        ListedValue::Other(FieldValueRef::Varint(given))
     }
 
     fn drop_value(value: ListedValue<'a>) -> bool {
