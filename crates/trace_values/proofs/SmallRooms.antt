@@ -1,6 +1,6 @@
 -- Maps of texts that take little room, in which nothing is too long.
 use Rattle.std.proofs.Common.{◌≡◌, ℕ, ◌+◌, ◌<◌, ◌≤◌, Bool, false, ◌||◌, List, [], ◌∷◌, length, take, get_or, ap, ap₂}
-use Rattle.std.proofs.Common.{◌∙◌, refl, sym, arith, Vec, Global}
+use Rattle.std.proofs.Common.{◌∙◌, refl, arith, Vec, Global}
 use Rattle.std.proofs.lemmas.Bool.{le-ltb}
 use Rattle.std.proofs.lemmas.List.{length-append}
 use Rattle.std.specs.List.{flat_map}
