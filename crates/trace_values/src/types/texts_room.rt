@@ -1,13 +1,15 @@
 //! Room that is made once for all texts of a map, and is then filled.
 
-ghost use Rattle.std.specs.Prelude.{◌≡◌, ◌⊎◌, ◌≤◌, ◌+◌, ◌^◌, ◌++◌, true, false, length, take, drop, MatchOption};
+ghost use Rattle.std.specs.Prelude.{◌≡◌, ◌⊎◌, ◌<◌, ◌≤◌, ◌+◌, ◌^◌, ◌++◌, true, false, length, take, drop, MatchOption};
 ghost use Rattle.std.specs.List.{flat_map};
+ghost use Rattle.trace_values.specs.Limits.{greatest_u32};
 ghost use Rattle.trace_values.specs.Values.{counted, text_pair, u32};
 ghost use Rattle.trace_values.specs.Spelling.{are_short_pairs, is_short};
 ghost use Rattle.trace_values.specs.Encoding.{Appends};
 ghost use Rattle.trace_values.specs.parts.types.TextParts.{parts_view};
 
 use crate::types::fitting::is_short;
+use crate::types::limits::MAX_U32;
 use crate::types::text_part::TextPart;
 use std::alloc::AllocError;
 
@@ -33,6 +35,29 @@ pub(crate) fn room_of_texts<T: TextPart>(pairs: &[(T, T)]) -> Option<usize>
             return None;
         };
         room = more;
+    }
+    Some(room)
+}
+
+/// How many bytes the pairs of a map of texts take, where four bytes can tell it, and so each length in them; else
+/// `None`.
+#[inline(always)]
+pub(crate) fn small_room_of_texts<T: TextPart>(pairs: &[(T, T)]) -> Option<usize>
+    ensures { MatchOption result
+        (greatest_u32 < length (flat_map text_pair (parts_view T.bytes pairs.now)))
+        (λ room. (room ≤ greatest_u32)
+        × (room ≡ length (flat_map text_pair (parts_view T.bytes pairs.now)))) }
+{
+    let mut room = 0usize;
+    for pair in pairs {
+        let both = pair.0.bytes().len() + pair.1.bytes().len();
+        if both > MAX_U32 as usize {
+            return None;
+        }
+        room += both + 8;
+        if room > MAX_U32 as usize {
+            return None;
+        }
     }
     Some(room)
 }
