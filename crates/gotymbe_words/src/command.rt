@@ -1,7 +1,7 @@
 //! The words that the program takes.
 
 use crate::command::options::with_options;
-use crate::command::tables::{SUBCOMMANDS, Subcommand};
+use crate::command::tables::{Subcommand, subcommands};
 use clap::Command;
 use std::alloc::{AllocError, Global};
 
@@ -12,11 +12,25 @@ const VERSION: &str = "0.1.0, proved with rattle-kit-13f logic dac8208d650f15bf"
 
 /// The whole command. `AllocError` where a growth was refused.
 pub fn command<'a>(alloc: Global) -> Result<Command<'a>, AllocError> {
-    let mut command = Command::new(alloc, "gotymbe")
+    with_subcommands(alloc, bare_command(alloc), subcommands())
+}
+
+// The command without subcommands.
+fn bare_command<'a>(alloc: Global) -> Command<'a> {
+    Command::new(alloc, "gotymbe")
         .version(VERSION)
         .about("Looks at traces, saves what reads whole of them, and turns them into other forms")
-        .subcommand_required(true);
-    for subcommand in SUBCOMMANDS {
+        .subcommand_required(true)
+}
+
+// A command with these subcommands.
+fn with_subcommands<'a>(
+    alloc: Global,
+    command: Command<'a>,
+    subcommands: &[Subcommand],
+) -> Result<Command<'a>, AllocError> {
+    let mut command = command;
+    for subcommand in subcommands {
         command = command.subcommand(command_of(alloc, subcommand)?)?;
     }
     Ok(command)

@@ -1,11 +1,12 @@
 //! The options of a subcommand, by their forms.
 
+use crate::command::tables::{Choice, described};
 use clap::{Arg, ArgAction, Command, value_parser};
 use std::alloc::{AllocError, Global};
 
-/// An option, or what stands there without one.
+/// How an option is called, and what is told of it.
 #[derive(Clone, Copy)]
-pub(crate) struct Choice {
+pub(crate) struct Described {
     pub(crate) name: &'static str,
     pub(crate) form: Form,
     /// What its value is called; nothing where it has none.
@@ -46,13 +47,13 @@ pub(crate) fn with_options<'a>(
 ) -> Result<Command<'a>, AllocError> {
     let mut command = command;
     for option in options {
-        command = command.arg(argument(alloc, option))?;
+        command = command.arg(argument(alloc, &described(*option)))?;
     }
     Ok(command)
 }
 
 // An option as its form has it.
-fn argument<'a>(alloc: Global, option: &Choice) -> Arg<'a> {
+fn argument<'a>(alloc: Global, option: &Described) -> Arg<'a> {
     match option.form {
         Form::Flag => flag(alloc, option),
         Form::Text => text(alloc, option),
@@ -68,29 +69,29 @@ fn argument<'a>(alloc: Global, option: &Choice) -> Arg<'a> {
 }
 
 // Yes where it is said.
-fn flag<'a>(alloc: Global, option: &Choice) -> Arg<'a> {
+fn flag<'a>(alloc: Global, option: &Described) -> Arg<'a> {
     Arg::new(alloc, option.name)
         .long(option.name)
         .action(ArgAction::SetTrue)
         .help(option.help)
 }
 
-fn text<'a>(alloc: Global, option: &Choice) -> Arg<'a> {
+fn text<'a>(alloc: Global, option: &Described) -> Arg<'a> {
     file(alloc, option).long(option.name)
 }
 
-fn number<'a>(alloc: Global, option: &Choice) -> Arg<'a> {
+fn number<'a>(alloc: Global, option: &Described) -> Arg<'a> {
     text(alloc, option).value_parser(value_parser!(u64))
 }
 
 // What stands there without an option.
-fn file<'a>(alloc: Global, option: &Choice) -> Arg<'a> {
+fn file<'a>(alloc: Global, option: &Described) -> Arg<'a> {
     Arg::new(alloc, option.name)
         .value_name(option.value_name)
         .help(option.help)
 }
 
-fn files<'a>(alloc: Global, option: &Choice) -> Arg<'a> {
+fn files<'a>(alloc: Global, option: &Described) -> Arg<'a> {
     file(alloc, option)
         .action(ArgAction::Append)
         .num_args(1..)

@@ -1,6 +1,6 @@
 //! The subcommands, and the options of each in their order.
 
-use crate::command::options::{Choice, Form};
+use crate::command::options::{Described, Form};
 
 /// A subcommand.
 #[derive(Clone, Copy)]
@@ -11,146 +11,199 @@ pub(crate) struct Subcommand {
     pub(crate) options: &'static [Choice],
 }
 
-const FILES: Choice = Choice {
+/// An option of a subcommand, or what stands there without one.
+#[derive(Clone, Copy)]
+pub(crate) enum Choice {
+    Files,
+    File,
+    NeededFile,
+    Quiet,
+    Resolve,
+    Merge,
+    Resync,
+    From,
+    To,
+    Event,
+    Limit,
+    Idle,
+    Output,
+    Force,
+    Folder,
+    ForceFiles,
+    Field,
+    PageTitle,
+    ChromeTitle,
+}
+
+const FILES: Described = Described {
     name: "file",
     form: Form::Files,
     value_name: "FILE",
     help: "The traces, - for standard input",
 };
 
-const FILE: Choice = Choice {
+const FILE: Described = Described {
     name: "file",
     form: Form::File,
     value_name: "FILE",
     help: "The trace, - for standard input",
 };
 
-const NEEDED_FILE: Choice = Choice {
+const NEEDED_FILE: Described = Described {
     name: "file",
     form: Form::NeededFile,
     value_name: "FILE",
     help: "The trace",
 };
 
-const QUIET: Choice = Choice {
+const QUIET: Described = Described {
     name: "quiet",
     form: Form::Flag,
     value_name: "",
     help: "Do not tell how far reading is",
 };
 
-const RESOLVE: Choice = Choice {
+const RESOLVE: Described = Described {
     name: "resolve",
     form: Form::Flag,
     value_name: "",
     help: "Of the frames the events alone, with texts and stacks in place of ids",
 };
 
-const MERGE: Choice = Choice {
+const MERGE: Described = Described {
     name: "merge",
     form: Form::Flag,
     value_name: "",
     help: "The events of all files by their times, each with its file",
 };
 
-const RESYNC: Choice = Choice {
+const RESYNC: Described = Described {
     name: "resync",
     form: Form::Flag,
     value_name: "",
     help: "Go on at the next header from which an event can be read",
 };
 
-const FROM: Choice = Choice {
+const FROM: Described = Described {
     name: "from",
     form: Form::Text,
     value_name: "TIME",
     help: "No event before this time, in nanoseconds or as a date",
 };
 
-const TO: Choice = Choice {
+const TO: Described = Described {
     name: "to",
     form: Form::Text,
     value_name: "TIME",
     help: "No event after this time, in nanoseconds or as a date",
 };
 
-const EVENT: Choice = Choice {
+const EVENT: Described = Described {
     name: "event",
     form: Form::Texts,
     value_name: "NAME",
     help: "Events of this name alone (may be given several times)",
 };
 
-const LIMIT: Choice = Choice {
+const LIMIT: Described = Described {
     name: "limit",
     form: Form::ShortNumber('n'),
     value_name: "N",
     help: "At most so many events",
 };
 
-const IDLE: Choice = Choice {
+const IDLE: Described = Described {
     name: "idle",
     form: Form::Number,
     value_name: "SECONDS",
     help: "End after so many seconds without growth",
 };
 
-const OUTPUT: Choice = Choice {
+const OUTPUT: Described = Described {
     name: "output",
     form: Form::ShortText('o'),
     value_name: "FILE",
     help: "Write into this file, which must not be there yet",
 };
 
-const FORCE: Choice = Choice {
+const FORCE: Described = Described {
     name: "force",
     form: Form::Flag,
     value_name: "",
     help: "Write in place of a file that is there",
 };
 
-const FOLDER: Choice = Choice {
+const FOLDER: Described = Described {
     name: "output",
     form: Form::NeededText('o'),
     value_name: "FOLDER",
     help: "Write into this folder, which is made where it is not there",
 };
 
-const FORCE_FILES: Choice = Choice {
+const FORCE_FILES: Described = Described {
     name: "force",
     form: Form::Flag,
     value_name: "",
     help: "Write in place of files that are there",
 };
 
-const FIELD: Choice = Choice {
+const FIELD: Described = Described {
     name: "field",
     form: Form::Text,
     value_name: "NAME",
     help: "Add up the numbers of this field, in place of how many events there are",
 };
 
-const PAGE_TITLE: Choice = Choice {
+const PAGE_TITLE: Described = Described {
     name: "title",
     form: Form::Text,
     value_name: "TEXT",
     help: "The title of the page, in place of the first file's name",
 };
 
-const CHROME_TITLE: Choice = Choice {
+const CHROME_TITLE: Described = Described {
     name: "title",
     form: Form::Text,
     value_name: "TEXT",
     help: "The name of the whole, in place of the file's name",
 };
 
+/// What an option is called, and what is told of it.
+pub(crate) fn described(choice: Choice) -> Described {
+    match choice {
+        Choice::Files => FILES,
+        Choice::File => FILE,
+        Choice::NeededFile => NEEDED_FILE,
+        Choice::Quiet => QUIET,
+        Choice::Resolve => RESOLVE,
+        Choice::Merge => MERGE,
+        Choice::Resync => RESYNC,
+        Choice::From => FROM,
+        Choice::To => TO,
+        Choice::Event => EVENT,
+        Choice::Limit => LIMIT,
+        Choice::Idle => IDLE,
+        Choice::Output => OUTPUT,
+        Choice::Force => FORCE,
+        Choice::Folder => FOLDER,
+        Choice::ForceFiles => FORCE_FILES,
+        Choice::Field => FIELD,
+        Choice::PageTitle => PAGE_TITLE,
+        Choice::ChromeTitle => CHROME_TITLE,
+    }
+}
+
 /// All subcommands.
-pub(crate) const SUBCOMMANDS: &[Subcommand] = &[
+pub(crate) fn subcommands() -> &'static [Subcommand] {
+    SUBCOMMANDS
+}
+
+const SUBCOMMANDS: &[Subcommand] = &[
     Subcommand {
         name: "check",
         about: "Tells whether traces are whole, and else where and why they stop",
         examples: "Example:\n  gotymbe check run.trace next.trace",
-        options: &[FILES, QUIET],
+        options: &[Choice::Files, Choice::Quiet],
     },
     Subcommand {
         name: "dump",
@@ -158,7 +211,16 @@ pub(crate) const SUBCOMMANDS: &[Subcommand] = &[
         examples: "Examples:\n  gotymbe dump run.trace\n  \
             gotymbe dump --resolve --event Poll --limit 10 run.trace",
         options: &[
-            RESOLVE, MERGE, FILES, FROM, TO, EVENT, LIMIT, OUTPUT, FORCE, QUIET,
+            Choice::Resolve,
+            Choice::Merge,
+            Choice::Files,
+            Choice::From,
+            Choice::To,
+            Choice::Event,
+            Choice::Limit,
+            Choice::Output,
+            Choice::Force,
+            Choice::Quiet,
         ],
     },
     Subcommand {
@@ -166,27 +228,65 @@ pub(crate) const SUBCOMMANDS: &[Subcommand] = &[
         about: "Writes each event as a line of JSON",
         examples: "Examples:\n  gotymbe json run.trace\n  \
             gotymbe json --from 1000 --to 2000 -o events.jsonl run.trace",
-        options: &[MERGE, FILES, FROM, TO, EVENT, LIMIT, OUTPUT, FORCE, QUIET],
+        options: &[
+            Choice::Merge,
+            Choice::Files,
+            Choice::From,
+            Choice::To,
+            Choice::Event,
+            Choice::Limit,
+            Choice::Output,
+            Choice::Force,
+            Choice::Quiet,
+        ],
     },
     Subcommand {
         name: "csv",
         about: "Writes the events of each schema as a table of comma-separated values",
         examples: "Examples:\n  gotymbe csv -o tables run.trace next.trace\n  \
             gotymbe csv --event Poll -o polls run.trace",
-        options: &[FILES, FROM, TO, EVENT, LIMIT, FOLDER, FORCE_FILES, QUIET],
+        options: &[
+            Choice::Files,
+            Choice::From,
+            Choice::To,
+            Choice::Event,
+            Choice::Limit,
+            Choice::Folder,
+            Choice::ForceFiles,
+            Choice::Quiet,
+        ],
     },
     Subcommand {
         name: "stats",
         about: "Writes what the events of all traces add up to, by schema",
         examples: "Examples:\n  gotymbe stats run.trace next.trace\n  gotymbe stats --event Poll run.trace",
-        options: &[FILES, FROM, TO, EVENT, LIMIT, OUTPUT, FORCE, QUIET],
+        options: &[
+            Choice::Files,
+            Choice::From,
+            Choice::To,
+            Choice::Event,
+            Choice::Limit,
+            Choice::Output,
+            Choice::Force,
+            Choice::Quiet,
+        ],
     },
     Subcommand {
         name: "fold",
         about: "Writes what the stacks of events add up to, as lines for flame graphs",
         examples: "Examples:\n  gotymbe fold run.trace next.trace\n  \
             gotymbe fold --event Alloc --field size run.trace",
-        options: &[FIELD, FILES, FROM, TO, EVENT, LIMIT, OUTPUT, FORCE, QUIET],
+        options: &[
+            Choice::Field,
+            Choice::Files,
+            Choice::From,
+            Choice::To,
+            Choice::Event,
+            Choice::Limit,
+            Choice::Output,
+            Choice::Force,
+            Choice::Quiet,
+        ],
     },
     Subcommand {
         name: "page",
@@ -194,7 +294,15 @@ pub(crate) const SUBCOMMANDS: &[Subcommand] = &[
         examples: "Examples:\n  gotymbe page -o run.html run.trace\n  \
             gotymbe page --title Day -o day.html a.trace b.trace",
         options: &[
-            PAGE_TITLE, FILES, FROM, TO, EVENT, LIMIT, OUTPUT, FORCE, QUIET,
+            Choice::PageTitle,
+            Choice::Files,
+            Choice::From,
+            Choice::To,
+            Choice::Event,
+            Choice::Limit,
+            Choice::Output,
+            Choice::Force,
+            Choice::Quiet,
         ],
     },
     Subcommand {
@@ -203,15 +311,15 @@ pub(crate) const SUBCOMMANDS: &[Subcommand] = &[
         examples: "Examples:\n  gotymbe chrome -o run.json run.trace\n  \
             gotymbe chrome --title Day -o day.json run.trace",
         options: &[
-            FILE,
-            CHROME_TITLE,
-            FROM,
-            TO,
-            EVENT,
-            LIMIT,
-            OUTPUT,
-            FORCE,
-            QUIET,
+            Choice::File,
+            Choice::ChromeTitle,
+            Choice::From,
+            Choice::To,
+            Choice::Event,
+            Choice::Limit,
+            Choice::Output,
+            Choice::Force,
+            Choice::Quiet,
         ],
     },
     Subcommand {
@@ -219,24 +327,37 @@ pub(crate) const SUBCOMMANDS: &[Subcommand] = &[
         about: "Saves the longest front of a trace that reads whole",
         examples: "Examples:\n  gotymbe salvage -o saved.trace torn.trace\n  \
             gotymbe salvage --resync -o all.trace bad.trace",
-        options: &[FILE, RESYNC, OUTPUT, FORCE, QUIET],
+        options: &[
+            Choice::File,
+            Choice::Resync,
+            Choice::Output,
+            Choice::Force,
+            Choice::Quiet,
+        ],
     },
     Subcommand {
         name: "join",
         about: "Joins the whole fronts of traces, one after another",
         examples: "Example:\n  gotymbe join -o day.trace morning.trace evening.trace",
-        options: &[FILES, OUTPUT, FORCE, QUIET],
+        options: &[Choice::Files, Choice::Output, Choice::Force, Choice::Quiet],
     },
     Subcommand {
         name: "cut",
         about: "Cuts the events of a range of times out of a trace, with all that they stand on",
         examples: "Example:\n  gotymbe cut --from 1000 --to 2000 -o part.trace run.trace",
-        options: &[FILE, FROM, TO, OUTPUT, FORCE, QUIET],
+        options: &[
+            Choice::File,
+            Choice::From,
+            Choice::To,
+            Choice::Output,
+            Choice::Force,
+            Choice::Quiet,
+        ],
     },
     Subcommand {
         name: "follow",
         about: "Writes the lines of a trace as it grows",
         examples: "Example:\n  gotymbe follow --idle 60 run.trace",
-        options: &[NEEDED_FILE, IDLE],
+        options: &[Choice::NeededFile, Choice::Idle],
     },
 ];
