@@ -15,8 +15,8 @@ use trace_lines::dump::FAILED;
 use trace_lines::pieces::dump_fed;
 use trace_values::leb128::Plain;
 
-/// Writes the lines of a file as it grows, anew where it shrank or another one came under its name; what is no file
-/// of bytes, as a pipe, is dumped to its end.
+/// Writes the lines of a file as it grows, anew where it shrank or another one came under its name. What is no file of
+/// bytes, as a pipe, is dumped to its end, also where it came in the place of a file.
 pub(crate) fn follow(
     rt: &(impl AllocGlobal + Files<File = File> + Input + Print + Eprint + Clock),
     call: &Call<'_>,
@@ -24,10 +24,10 @@ pub(crate) fn follow(
     let Some(name) = call.asked.files.first() else {
         return Ok(FAILED);
     };
-    if !reads_twice(rt, name) {
-        return write(rt, call);
-    }
     'traces: for _ in 0..u64::MAX {
+        if !reads_twice(rt, name) {
+            return write(rt, call);
+        }
         match dump_growing(rt, call, name) {
             Ok(change) => tell_anew(rt, name, change)?,
             Err(ending) => return tell(rt, told_of(ending, name, STANDARD), ending),
