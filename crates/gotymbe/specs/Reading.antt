@@ -7,15 +7,13 @@ use Rattle.dial9_trace_format.specs.Feeding.{FeedState}
 use Rattle.dial9_trace_format.specs.FeedCauses.{TellsCause}
 use Rattle.dial9_trace_format.specs.declared.decoder.error.DecodeError.{DecodeError}
 use Rattle.dial9_trace_format.specs.declared.decoder.error.DecodeErrorKind.{DecodeErrorKind}
-use Rattle.dial9_trace_format.specs.declared.decoder.error.TryForEachError.{TryForEachError}
-use Rattle.dial9_trace_format.specs.declared.decoder.error.TryForEachError.TheVariants.{Decode, User}
 use Rattle.trace_fronts.specs.Fronts.{IsWholeFront}
 use Rattle.trace_fronts.specs.declared.pieces.Gap.{Gap}
 use Rattle.trace_fronts.specs.declared.whole.Front.{Front}
 use Rattle.trace_fronts.specs.declared.whole.Readers.{Readers}
 use Rattle.gotymbe_plan.specs.declared.ending.Ending.{Ending}
 use Rattle.gotymbe_plan.specs.declared.ending.Ending.TheVariants.{Whole, Stopped, OutOfMemory, Unread, Unfinished}
-use Rattle.gotymbe_plan.specs.Endings.{IsErrorEnding, IsUnreadEnding, LacksCause, rest_ending, stop_ending}
+use Rattle.gotymbe_plan.specs.Endings.{IsConflict, IsErrorEnding, IsUnreadEnding, LacksCause, rest_ending, stop_ending}
 use Rattle.gotymbe_plan.specs.Gaps.{EndsWithGap, greatest_status}
 
 -- the last bytes make no frame whole: want of memory, the place alone, or the first cause why none stands there
@@ -43,11 +41,10 @@ abbrev pub IsFrontEnding : Readers → List ℕ → Ending → Type 0
 IsFrontEnding readers bytes ending = (ending ≡ OutOfMemory)
     ⊎ ((front : Front) × IsWholeFront readers bytes front × (ending ≡ stop_ending front.stop))
 
--- a sink was shown the next event, or none was left: the ending that the sink told, or that of the decoder's error
-abbrev pub IsNextEnding : Result (Unit {0}) (TryForEachError Ending) → Ending → Type 0
-IsNextEnding (Ok done) ending = ending ≡ Whole
-IsNextEnding (Err (User told)) ending = ending ≡ told
-IsNextEnding (Err (Decode error)) ending = IsErrorEnding error.pos error.kind ending
+-- it is a stop at a schema that conflicts
+abbrev pub IsConflictEnding : Ending → Type 0
+IsConflictEnding (Stopped stop) = IsConflict stop.cause
+IsConflictEnding ending = ⊥
 
 -- a file ends by its last gap, and has the greatest status of those before it
 abbrev pub TellsGaps : List Gap → Ending → ℕ → Type 0

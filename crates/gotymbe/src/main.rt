@@ -36,6 +36,13 @@ use trace_lines::dump::{FAILED, WHOLE};
 
 fn main(rt: HostRuntime) -> ExitCode {
     let terminal = rt.stderr().is_terminal();
+    // (a file takes the least number that is free. Where standard error is closed that would be its own, and what is
+    // told would go into the file: so a folder takes it, which is neither read nor written)
+    let _taken = [
+        File::open(&rt, "/"),
+        File::open(&rt, "/"),
+        File::open(&rt, "/"),
+    ];
     match run(&rt, terminal) {
         Ok(status) => ExitCode::from(status),
         Err(_) => ExitCode::from(tell_no_memory(&rt)),

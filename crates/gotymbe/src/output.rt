@@ -1,11 +1,13 @@
 //! What is written.
 
-ghost use Rattle.std.specs.Prelude.{◌≡◌, codes, false};
+ghost use Rattle.std.specs.Prelude.{◌≡◌, ◌≢◌, IsTrue, codes, false};
+ghost use Rattle.gotymbe_plan.specs.declared.output.Standing.TheVariants.{Nothing, Other};
 
 use gotymbe_plan::ending::Ending;
 use gotymbe_plan::output::{Standing, Way, can_read_twice, leads_to_open, name_beside, way_of};
 use std::fs::{File, OpenOptions};
 use std::io::ErrorKind;
+use std::os::unix::fs::OpenOptionsExt;
 use std::rt::Files;
 use std::{fs, io};
 use trace_values::leb128::{Plain, TraceWrite, send_all};
@@ -98,16 +100,30 @@ pub(crate) fn begin_place(
     }
 }
 
-// What stands under the name of a file that is to be written. A link to what is open already, as `/dev/stdout` is one,
-// is written into as a pipe is: it is no file's name.
+// What stands under the name of a file that is to be written. What is open already, as `/dev/fd/1`, and a link to that,
+// as `/dev/stdout`, is written into as a pipe is: it is no file's name.
 fn standing_to_write(
     rt: &(impl AllocGlobal + Files<File = File>),
     name: &str,
 ) -> Result<Standing, Ending> {
+    if leads_to_open(name) {
+        return Ok(open_standing(standing(rt, name)));
+    }
     match fs::read_link(rt, name) {
         Ok(target) if leads_to_open(target.as_str()) => Ok(Standing::Other),
         Err(error) if error.kind() == ErrorKind::OutOfMemory => Err(Ending::OutOfMemory),
         _ => Ok(standing(rt, name)),
+    }
+}
+
+// What is open already, where this stands under its name.
+fn open_standing(found: Standing) -> Standing
+    ensures nothing { found ≡ Nothing → result ≡ Nothing }
+    ensures open { found ≢ Nothing → result ≡ Other }
+{
+    match found {
+        Standing::Nothing => Standing::Nothing,
+        _ => Standing::Other,
     }
 }
 
@@ -146,9 +162,14 @@ fn into_place(
 
 // Begins to write beside a name: under the first name for that which no file has.
 fn beside(rt: &(impl AllocGlobal + Files<File = File>), name: &str) -> io::Result<(File, String)> {
+    let mut options = OpenOptions::new();
+    options
+        .write(true)
+        .create_new(true)
+        .mode(mode_beside(fs::metadata(rt, name).is_ok()));
     'names: for taken in 0..u64::MAX {
         let beside = name_beside(rt.alloc(), name, taken)?;
-        match File::create_new(rt, beside.as_str()) {
+        match options.open(rt, beside.as_str()) {
             Ok(file) => return Ok((file, beside)),
             Err(error) => {
                 if error.kind() != ErrorKind::AlreadyExists {
@@ -158,6 +179,23 @@ fn beside(rt: &(impl AllocGlobal + Files<File = File>), name: &str) -> io::Resul
         }
     }
     Err(io::Error::from(ErrorKind::AlreadyExists))
+}
+
+// With which mode a file is made beside a name: where one stands there, nobody else reads it before it has the mode of
+// that one.
+fn mode_beside(is_there: bool) -> u32
+    ensures there { IsTrue is_there → result ≡ 0o600 }
+    ensures new { ¬ IsTrue is_there → result ≡ 0o666 }
+{
+    if is_there { 0o600 } else { 0o666 }
+}
+
+// Gives a file the mode of the one that stands under a name, if one does.
+fn keep_mode(rt: &impl Files, name: &str, file: &File) -> io::Result<()> {
+    match fs::metadata(rt, name) {
+        Ok(found) => file.set_permissions(found.permissions()),
+        Err(_) => Ok(()),
+    }
 }
 
 impl Place {
@@ -204,6 +242,7 @@ impl Place {
                 fs::remove_file(rt, beside)
             }
             Way::InPlace => {
+                keep_mode(rt, name, file)?;
                 file.sync_all()?;
                 fs::rename(rt, beside, name)
             }

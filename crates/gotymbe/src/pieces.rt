@@ -20,8 +20,8 @@ use trace_events::event::OwnedEvent;
 use trace_fronts::whole::Stop;
 use trace_stats::trace::TraceStats;
 
-// So many bytes at most are read at once.
-const PIECE: usize = 16_384;
+/// So many bytes at most are read at once.
+pub(crate) const PIECE: usize = 16_384;
 
 /// What takes frames, each with the decoder that gave it and how many bytes it took. A sink leaves out the other calls
 /// where it does nothing.

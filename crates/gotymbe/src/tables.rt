@@ -84,30 +84,43 @@ impl<'c, 'r, R: AllocGlobal + Files<File = File>> Tables<'c, 'r, R> {
         Ok(place)
     }
 
-    // Begins the table of a schema. Its file is begun last, and removed where the table can't be kept.
+    // Begins the table of a schema. Its file is removed where the table can't be kept.
     fn put_last(&mut self, schema: &SchemaEntry) -> Result<usize, Ending> {
-        let (alloc, place) = (self.rt.alloc(), self.tables.len());
-        let name = table_name(alloc, place as u64 + 1, schema.name())?;
-        let path = path_of(alloc, self.folder, &name, "csv")?;
-        let mut text = Writer::from_writer(Vec::new(alloc));
-        put_columns(alloc, &mut self.row, schema.fields())?;
-        if text.write_byte_record(&self.row).is_err() {
-            return Err(Ending::OutOfMemory);
-        }
-        let table = Table {
-            schema: SchemaEntry::new(alloc, schema.name(), schema.fields())?,
-            name,
-            place: self.begin(path)?,
-            rows: 0,
-            text,
-            held: 0,
-        };
+        let place = self.tables.len();
+        let table = self.begin_table(place as u64 + 1, schema)?;
         match self.tables.push(table) {
             Ok(()) => Ok(place),
             Err(refused) => {
                 refused.value.place.give_up(self.rt);
                 Err(Ending::OutOfMemory)
             }
+        }
+    }
+
+    // Begins the table of this number. Its file is begun last: what needs memory comes before.
+    fn begin_table(&mut self, number: u64, schema: &SchemaEntry) -> Result<Table, Ending> {
+        let alloc = self.rt.alloc();
+        let name = table_name(alloc, number, schema.name())?;
+        let path = path_of(alloc, self.folder, &name, "csv")?;
+        let text = self.first_row(schema)?;
+        Ok(Table {
+            schema: SchemaEntry::new(alloc, schema.name(), schema.fields())?,
+            name,
+            place: self.begin(path)?,
+            rows: 0,
+            text,
+            held: 0,
+        })
+    }
+
+    // The first row of the table of a schema: the names of its columns.
+    fn first_row(&mut self, schema: &SchemaEntry) -> Result<Writer<Vec<u8>>, Ending> {
+        let alloc = self.rt.alloc();
+        let mut text = Writer::from_writer(Vec::new(alloc));
+        put_columns(alloc, &mut self.row, schema.fields())?;
+        match text.write_byte_record(&self.row) {
+            Ok(()) => Ok(text),
+            Err(_) => Err(Ending::OutOfMemory),
         }
     }
 
@@ -156,14 +169,10 @@ impl<'c, 'r, R: AllocGlobal + Files<File = File>> Tables<'c, 'r, R> {
         let Some(table) = self.tables.get_mut(place) else {
             return Ok(());
         };
-        let next = Writer::from_writer(Vec::new(alloc));
-        let Ok(rows) = mem::replace(&mut table.text, next).into_inner() else {
-            return Err(Ending::OutOfMemory);
-        };
+        let rows = take_rows(alloc, &mut table.text)?;
         self.held = self.held.saturating_sub(table.held);
         table.held = 0;
-        let appended = table.place.append(self.rt, &rows);
-        match appended {
+        match table.place.append(self.rt, &rows) {
             Ok(()) => Ok(()),
             Err(ending) => {
                 self.failed = Some(path_of(alloc, self.folder, &table.name, "csv")?);
@@ -285,6 +294,14 @@ fn place_of(tables: &[Table], guess: usize, schema: &SchemaEntry) -> Option<usiz
     tables
         .iter()
         .position(|table| is_same_schema(&table.schema, schema))
+}
+
+// Takes the rows that are not written yet.
+fn take_rows(alloc: Global, text: &mut Writer<Vec<u8>>) -> Result<Vec<u8>, Ending> {
+    match mem::replace(text, Writer::from_writer(Vec::new(alloc))).into_inner() {
+        Ok(rows) => Ok(rows),
+        Err(_) => Err(Ending::OutOfMemory),
+    }
 }
 
 // The name of a file of a folder.

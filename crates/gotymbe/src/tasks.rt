@@ -163,18 +163,29 @@ fn write_each<W: TraceWrite + Drop>(
 ) -> Result<u8, AllocError> {
     let mut status = WHOLE;
     for name in call.asked.files.as_slice() {
-        let (ending, before) = match call.asked.task {
-            Task::Salvage => saving::salvage_one(rt, call, name, out)?,
-            Task::Cut => (saving::cut_one(rt, call, name, out), WHOLE),
-            Task::Chrome => (charting::chart_one(rt, call, name, out), WHOLE),
-            _ => (showing::show_one(rt, call, name, out), WHOLE),
-        };
+        let (ending, before) = write_one(rt, call, name, out)?;
         if let Ending::Unwritten(_) = ending {
             return tell(rt, written, ending);
         }
         status = status.max(before).max(tell(rt, name, ending)?);
     }
     settle(rt, written, out, status)
+}
+
+// Writes what is asked for of a file, and answers how its reading ended and the status of what was told before.
+fn write_one<W: TraceWrite + Drop>(
+    rt: &(impl AllocGlobal + Files<File = File> + Input + Eprint + Clock),
+    call: &Call<'_>,
+    name: &str,
+    out: &mut Noted<W>,
+) -> Result<(Ending, u8), AllocError> {
+    let ending = match call.asked.task {
+        Task::Salvage => return saving::salvage_one(rt, call, name, out),
+        Task::Cut => saving::cut_one(rt, call, name, out),
+        Task::Chrome => charting::chart_one(rt, call, name, out),
+        _ => showing::show_one(rt, call, name, out),
+    };
+    Ok((ending, WHOLE))
 }
 
 /// Settles what is written, and answers the status, this one where that did not fail.

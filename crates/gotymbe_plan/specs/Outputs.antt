@@ -1,5 +1,5 @@
 -- How a file is written, and whether it can be read twice.
-use Rattle.std.specs.Prelude.{◌≡◌, ◌≢◌, ℕ, ◌<◌, Bool, true, false, List, ◌++◌, codes}
+use Rattle.std.specs.Prelude.{◌≡◌, ◌≢◌, ◌⊎◌, ℕ, ◌<◌, Bool, true, false, List, ◌++◌, codes}
 use Rattle.std.specs.Fmt.{decimal}
 use Rattle.gotymbe_plan.specs.declared.output.Standing.{Standing}
 use Rattle.gotymbe_plan.specs.declared.output.Standing.TheVariants.{Nothing, File, Other}
@@ -14,9 +14,13 @@ way_for File false = Refused
 way_for Other true = Into
 way_for Other false = Refused
 
--- what a link leads to is open already: it lies among what the system tells of processes
+-- a name begins with a text
+abbrev pub BeginsWith : List ℕ → List ℕ → Type 0
+BeginsWith start name = (rest : List ℕ) × (name ≡ start ++ rest)
+
+-- what a name leads to is open already: it lies among what the system tells of processes, or of this one's files
 abbrev pub LeadsToOpen : List ℕ → Type 0
-LeadsToOpen target = (rest : List ℕ) × (target ≡ codes "/proc/" ++ rest)
+LeadsToOpen name = BeginsWith (codes "/proc/") name ⊎ BeginsWith (codes "/dev/fd/") name
 
 -- a file of bytes can be read twice; standard input can't
 abbrev pub CanReadTwice : List ℕ → Standing → Type 0

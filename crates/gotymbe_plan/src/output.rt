@@ -43,11 +43,12 @@ pub fn way_of(standing: Standing, force: bool) -> Way
     }
 }
 
-/// Whether a link that leads to this leads to what is open already, as `/dev/stdout` does.
-pub fn leads_to_open(target: &str) -> bool
-    ensures { IsTrue result ↔ LeadsToOpen target.now }
+/// Whether what stands under this name is open already, and is no file's own name: as under `/dev/fd/1`, and as what
+/// `/dev/stdout` leads to.
+pub fn leads_to_open(name: &str) -> bool
+    ensures { IsTrue result ↔ LeadsToOpen name.now }
 {
-    target.starts_with("/proc/")
+    name.starts_with("/proc/") || name.starts_with("/dev/fd/")
 }
 
 /// Whether what stands under a name can be read twice: a file of bytes, and not `-`, which is standard input.

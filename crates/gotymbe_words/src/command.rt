@@ -8,7 +8,7 @@ use std::alloc::{AllocError, Global};
 mod options;
 mod tables;
 
-const VERSION: &str = "0.1.0, proved with rattle-kit-13f logic dac8208d650f15bf";
+const VERSION: &str = "0.1.0, with rattle-kit-13f logic dac8208d650f15bf";
 
 /// The whole command. `AllocError` where a growth was refused.
 pub fn command<'a>(alloc: Global) -> Result<Command<'a>, AllocError> {

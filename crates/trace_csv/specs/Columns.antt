@@ -28,8 +28,12 @@ is_among fields name = list_any (λ f. same_name f.name name) fields
 
 -- a character stands in it that has no place in a column's name: a control character, a quotation mark, the mark of
 -- numbers
+abbrev pub has_unfit : List ℕ → Bool
+has_unfit name = list_any (λ b. nat_lt b 32 || (nat_eq b 34 || nat_eq b mark)) name
+
+-- an empty name is unfit too
 abbrev pub is_unfit : List ℕ → Bool
-is_unfit name = list_any (λ b. nat_lt b 32 || (nat_eq b 34 || nat_eq b mark)) name
+is_unfit name = nat_eq (length name) 0 || has_unfit name
 
 -- the name of the field at a place
 abbrev pub name_at : List Field → ℕ → List ℕ

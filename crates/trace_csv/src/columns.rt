@@ -2,7 +2,7 @@
 
 ghost use Rattle.std.specs.Prelude.{◌≡◌, ◌<◌, length, IfOk, OnOk, string_bytes};
 ghost use Rattle.csv.specs.Records.{fields_of};
-ghost use Rattle.trace_csv.specs.Columns.{is_unfit, is_among, takes_number, column_name};
+ghost use Rattle.trace_csv.specs.Columns.{has_unfit, is_unfit, is_among, takes_number, column_name};
 ghost use Rattle.trace_csv.specs.Columns.{column_names};
 
 use csv::ByteRecord;
@@ -36,8 +36,8 @@ pub fn put_columns(
 
 /// The name of the column of a field: the field's, and where that would not do, with `#` and the number of the field.
 /// It would not do where it is that of the times or of an earlier field, apart from the case of ASCII letters, and
-/// where the schema has more than 1,000 fields. A name with a control character, a `"` or a `#` is left out, and the
-/// number stands alone. `AllocError` where a growth was refused.
+/// where the schema has more than 1,000 fields. Of an empty name, and of one with a control character, a `"` or a `#`,
+/// the number stands alone. `AllocError` where a growth was refused.
 pub fn column_name(alloc: Global, fields: &[FieldDef], place: usize) -> Result<String, AllocError>
     requires { place < length fields.now }
     ensures { IfOk result (λ name. string_bytes name ≡ column_name fields.now place) }
@@ -67,9 +67,16 @@ fn is_among(fields: &[FieldDef], name: &str) -> bool
         .any(|field| field.name().eq_ignore_ascii_case(name))
 }
 
-// Whether a character stands in a name that has no place in a column's.
+// Whether a name is empty, or a character stands in it that has no place in a column's.
 fn is_unfit(name: &str) -> bool
     ensures { result ≡ is_unfit name.now }
+{
+    name.is_empty() || has_unfit(name)
+}
+
+// Whether a character stands in a name that has no place in a column's.
+fn has_unfit(name: &str) -> bool
+    ensures { result ≡ has_unfit name.now }
 {
     name.as_bytes()
         .iter()

@@ -10,7 +10,7 @@ use crate::output::Noted;
 use crate::tasks::{Call, read_each, settle, tell};
 use gotymbe_plan::ending::Ending;
 use gotymbe_plan::gaps::{greatest_status, last_of};
-use std::alloc::AllocError;
+use std::alloc::{AllocError, Global};
 use std::fs::File;
 use std::rt::{Clock, Files};
 use trace_cuts::cut::{CutError, send_cut};
@@ -18,7 +18,7 @@ use trace_cuts::range::TimeRange;
 use trace_fronts::joining::join;
 use trace_fronts::pieces::{Gap, salvage_pieces};
 use trace_fronts::salvaging::salvage;
-use trace_fronts::whole::Readers;
+use trace_fronts::whole::{Front, Readers};
 use trace_lines::dump::WHOLE;
 use trace_values::leb128::TraceWrite;
 
@@ -35,15 +35,19 @@ pub(crate) fn salvage_one<W: TraceWrite + Drop>(
         Err(ending) => return Ok((ending, WHOLE)),
     };
     if bytes.is_empty() || !call.asked.resync {
-        let ending = match salvage(rt.alloc(), &bytes, Readers::Owned, out) {
-            Ok(front) => Ending::of_stop(front.stop),
-            Err(error) => Ending::from(error),
-        };
-        return Ok((ending, WHOLE));
+        return Ok((salvage_front(rt.alloc(), &bytes, out), WHOLE));
     }
     match salvage_pieces(rt.alloc(), &bytes, Readers::Owned, out) {
         Ok(gaps) => tell_gaps(rt, name, &gaps),
         Err(error) => Ok((Ending::from(error), WHOLE)),
+    }
+}
+
+// Saves the whole front of bytes, and answers how that ends.
+fn salvage_front<W: TraceWrite + Drop>(alloc: Global, bytes: &[u8], out: &mut Noted<W>) -> Ending {
+    match salvage(alloc, bytes, Readers::Owned, out) {
+        Ok(front) => Ending::of_stop(front.stop),
+        Err(error) => Ending::from(error),
     }
 }
 
@@ -103,23 +107,42 @@ pub(crate) fn join_all<W: TraceWrite + Drop>(
     written: &str,
     out: &mut Noted<W>,
 ) -> Result<u8, AllocError> {
-    let traces = match read_each(rt, call)? {
-        Ok(traces) => traces,
-        Err(status) => return Ok(status),
-    };
+    match read_each(rt, call)? {
+        Ok(traces) => join_traces(rt, call, &traces, written, out),
+        Err(status) => Ok(status),
+    }
+}
+
+// Joins the whole fronts of traces, and answers the status.
+fn join_traces<W: TraceWrite + Drop>(
+    rt: &(impl AllocGlobal + Eprint),
+    call: &Call<'_>,
+    traces: &[Vec<u8>],
+    written: &str,
+    out: &mut Noted<W>,
+) -> Result<u8, AllocError> {
     let mut inputs: Vec<&[u8]> = Vec::new(rt.alloc());
-    for trace in traces.as_slice() {
+    for trace in traces {
         inputs.push(trace.as_slice())?;
     }
     let fronts = match join(rt.alloc(), inputs.as_slice(), Readers::Owned, out) {
         Ok(fronts) => fronts,
         Err(error) => return tell(rt, written, Ending::from(error)),
     };
-    if let Err(error) = out.settle() {
-        return tell(rt, written, Ending::Unwritten(error.kind()));
+    match out.settle() {
+        Ok(()) => tell_fronts(rt, call, &fronts),
+        Err(error) => tell(rt, written, Ending::Unwritten(error.kind())),
     }
+}
+
+// Tells of each file where its whole front ends, and answers the status.
+fn tell_fronts(
+    rt: &(impl AllocGlobal + Eprint),
+    call: &Call<'_>,
+    fronts: &[Front],
+) -> Result<u8, AllocError> {
     let mut status = WHOLE;
-    for (name, front) in call.asked.files.iter().zip(fronts.as_slice()) {
+    for (name, front) in call.asked.files.iter().zip(fronts) {
         status = status.max(tell(rt, name, Ending::of_stop(front.stop))?);
     }
     Ok(status)

@@ -9,9 +9,10 @@ use crate::tasks::{Call, settle, tell, write_text};
 use dial9_trace_format::decoder::FeedDecoder;
 use gotymbe_plan::ending::{Ending, dump_ending, push_whole};
 use gotymbe_plan::statistics::push_stats;
-use std::alloc::AllocError;
+use std::alloc::{AllocError, Global};
 use std::fs::File;
 use std::io;
+use std::io::ErrorKind;
 use std::rt::{Clock, Files};
 use trace_lines::dump::WHOLE;
 use trace_lines::pieces::dump_fed;
@@ -32,14 +33,26 @@ pub(crate) fn check(
         let ending = ending_of(rt, call, name);
         status = status.max(tell(rt, name, ending)?);
         if ending == Ending::Whole {
-            let mut line = String::new(rt.alloc());
-            push_whole(&mut line, name)?;
-            if let Err(fault) = send_all(&mut out, line.as_bytes()) {
-                return tell(rt, STANDARD, Ending::Unwritten(fault.kind));
+            if let Err(kind) = send_whole(rt.alloc(), &mut out, name)? {
+                return tell(rt, STANDARD, Ending::Unwritten(kind));
             }
         }
     }
     settle(rt, STANDARD, &mut out, status)
+}
+
+// Sends the line of a file that is whole; or answers the kind of error by which it was not sent.
+fn send_whole<W: TraceWrite + Drop>(
+    alloc: Global,
+    out: &mut Noted<W>,
+    name: &str,
+) -> Result<Result<(), ErrorKind>, AllocError> {
+    let mut line = String::new(alloc);
+    push_whole(&mut line, name)?;
+    match send_all(out, line.as_bytes()) {
+        Ok(()) => Ok(Ok(())),
+        Err(fault) => Ok(Err(fault.kind)),
+    }
 }
 
 /// Writes what the events of all files add up to.
@@ -109,8 +122,20 @@ fn dump_frames<W: TraceWrite + Drop>(
     let mut decoder = FeedDecoder::new(rt.alloc());
     let status = dump_fed(rt.alloc(), &mut decoder, &mut input, out);
     input.finish();
-    match dump_ending(status, input.error, out.error) {
-        Ending::Dumped(_) => placed(rt, call, name, ending_by(&decoder)),
-        ending => ending,
+    let ending = dump_ending(status, input.error, out.error);
+    dumped(rt, call, name, &decoder, ending)
+}
+
+/// How the reading of a file ended that was dumped, by the decoder that was fed it.
+pub(crate) fn dumped(
+    rt: &(impl AllocGlobal + Files<File = File> + Input + Eprint + Clock),
+    call: &Call<'_>,
+    name: &str,
+    decoder: &FeedDecoder,
+    ending: Ending,
+) -> Ending {
+    match ending {
+        Ending::Dumped(_) => placed(rt, call, name, ending_by(decoder)),
+        _ => ending,
     }
 }

@@ -185,7 +185,7 @@ const COLUMNS: [(&[&str], &str); 7] = [
     (&[], "timestamp_ns|"),
     (&["a", "b"], "timestamp_ns|a|b|"),
     (&["a", "A", "a"], "timestamp_ns|a|A#2|a#3|"),
-    (&["", ""], "timestamp_ns||#2|"),
+    (&["", ""], "timestamp_ns|#1|#2|"),
     (&["Timestamp_NS"], "timestamp_ns|Timestamp_NS#1|"),
     (&["x#2", "x", "x"], "timestamp_ns|#1|x|x#3|"),
     (&["a\nb", "a\"b", "a\0"], "timestamp_ns|#1|#2|#3|"),

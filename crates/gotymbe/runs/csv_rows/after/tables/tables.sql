@@ -15,7 +15,7 @@ CREATE TABLE "3-N" (
   "e" BOOLEAN,
   "e#7" BOOLEAN,
   "a#8" BIGINT,
-  "" BIGINT
+  "#9" BIGINT
 );
 CREATE TABLE "4-F" (
   "timestamp_ns" UBIGINT,
