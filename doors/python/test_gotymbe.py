@@ -341,6 +341,11 @@ class Doors(unittest.TestCase):
         self.assertEqual((check(trace), trace.count(b"TRC\0")), (65537, 1))
         again = record((it.schema, it.time, it.row) for it in gotymbe.read(trace, 1))
         self.assertEqual(again, trace)
+        one, each, schema = Batch(), Batch(), Schema("A", [("n", VARINT)])
+        for n in range(3):
+            one.add(schema, n, [n])
+            each.add(Schema("A", [("n", VARINT)]), n, [n])
+        self.assertEqual(one.bytes(), each.bytes())
 
     def test_more_schemas_than_wire_ids(self):
         """A schema for which a trace has no wire id left begins another: ids from 256 on are given to schemas."""
