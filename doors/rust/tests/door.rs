@@ -452,10 +452,7 @@ fn refusals() {
 #[test]
 fn errors_as_texts() {
     for (error, text) in [
-        (
-            Error::Batch { cause: Cause::ValueCount, record: 3, detail: 0 },
-            "record 3: not as many values as fields",
-        ),
+        (Error::Batch { cause: Cause::ValueCount, record: 3, detail: 0 }, "record 3: not as many values as fields"),
         (
             Error::Batch { cause: Cause::Misfit, record: 3, detail: 7 },
             "record 3: the value of field 7 does not fit its type",
@@ -464,10 +461,7 @@ fn errors_as_texts() {
             Error::Trace { cause: Cause::NoFrame, length: 5, place: 8, detail: 9 },
             "stops at byte 8: no frame stands there",
         ),
-        (
-            Error::from(std::io::Error::new(std::io::ErrorKind::Other, "no room")),
-            "the writer failed: no room",
-        ),
+        (Error::from(std::io::Error::new(std::io::ErrorKind::Other, "no room")), "the writer failed: no room"),
     ] {
         assert_eq!(error.to_string(), text);
     }
