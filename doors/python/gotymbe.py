@@ -16,19 +16,27 @@ import struct
  MAP) = range(1, 16)
 OPTIONAL = 0x80
 
-DONE, SHORT_ROOM, OUT_OF_MEMORY = 0, 1, 2
-STOPS = range(48, 58)  # why no frame stands after what was read
+# what a call answers (docs/DOORS.md, "Errors")
+DONE, SHORT_ROOM, OUT_OF_MEMORY, NO_RECORD, UNKNOWN_SCHEMA = 0, 1, 2, 16, 17
+(CONFLICT, VALUE_COUNT, MISFIT, TOO_LONG, IDS_USED_UP, SLOT_TAKEN, SLOT_UNTIMED, BYTE_COUNT, FAILED) = range(32, 41)
+(TRUNCATED_EVENT, UNKNOWN_TYPE, TRUNCATED_DELTA, TIME_OVERFLOW, TRUNCATED_PREFIX, TRUNCATED_OPTIONAL, TRUNCATED_VALUE,
+ TRUNCATED_RESET, NO_FRAME, SCHEMA_CONFLICT, NO_HEADER) = range(48, 59)
+NO_STATE = 60
+STOPS = range(TRUNCATED_EVENT, NO_HEADER)  # why no frame stands after what was read
 NAMES = {
-    2: "out of memory", 16: "no record of a batch stands there", 17: "no schema has this number",
-    32: "a schema of this name has other fields or annotations", 33: "not as many values as fields",
-    34: "a value does not fit its type", 35: "a length is past its width", 36: "no id is left", 37: "a slot is taken",
-    38: "a slot has no times", 39: "too many bytes", 40: "the encoder has failed",
-    48: "an event is cut", 49: "a wire id has no schema", 50: "a delta is cut", 51: "a time is past 64 bits",
-    52: "the presence byte of a field is cut", 53: "an optional field is no value of its type",
-    54: "a field is no value of its type", 55: "a reset is cut", 56: "no frame stands there",
-    57: "a wire id stands for another schema", 58: "no header stands there", 59: "too many bytes",
-    60: "no state stands there",
+    OUT_OF_MEMORY: "out of memory", NO_RECORD: "no record of a batch stands there",
+    UNKNOWN_SCHEMA: "no schema has this number", CONFLICT: "a schema of this name has other fields or annotations",
+    VALUE_COUNT: "not as many values as fields", MISFIT: "a value does not fit its type",
+    TOO_LONG: "a length is past its width", IDS_USED_UP: "no id is left", SLOT_TAKEN: "a slot is taken",
+    SLOT_UNTIMED: "a slot has no times", BYTE_COUNT: "too many bytes", FAILED: "the encoder has failed",
+    TRUNCATED_EVENT: "an event is cut", UNKNOWN_TYPE: "a wire id has no schema", TRUNCATED_DELTA: "a delta is cut",
+    TIME_OVERFLOW: "a time is past 64 bits", TRUNCATED_PREFIX: "the presence byte of a field is cut",
+    TRUNCATED_OPTIONAL: "an optional field is no value of its type",
+    TRUNCATED_VALUE: "a field is no value of its type", TRUNCATED_RESET: "a reset is cut",
+    NO_FRAME: "no frame stands there", SCHEMA_CONFLICT: "a wire id stands for another schema",
+    NO_HEADER: "no header stands there", 59: "too many bytes", NO_STATE: "no state stands there",
 }
+MOST_SCHEMAS = 65_280  # of a batch: as many wire ids does an encoder give to schemas
 
 
 def optional(kind):
@@ -42,6 +50,10 @@ class TraceError(Exception):
     def __init__(self, code, length, place, detail):
         super().__init__(f"{NAMES.get(code, code)} (code {code}, place {place}, detail {detail})")
         self.code, self.length, self.place, self.detail = code, length, place, detail
+
+    def moved(self, begin):
+        """The same, of a trace that begins so many bytes before."""
+        return TraceError(self.code, begin + self.length, begin + self.place, self.detail)
 
 
 class _Report(ctypes.Structure):
@@ -97,9 +109,14 @@ def _name(text):
     return _number(len(raw), 2) + raw
 
 
+def _held(value):
+    """Bytes as they are, and a copy of what else holds bytes. (`bytes` would make as many zeros of a number.)"""
+    return value if isinstance(value, bytes) else bytes(memoryview(value))
+
+
 def _raw(value):
-    """The bytes of a text, or of what is bytes. (`bytes` would make as many zeros of a number.)"""
-    return value.encode() if isinstance(value, str) else bytes(memoryview(value))
+    """The bytes of a text, or of what holds bytes."""
+    return value.encode() if isinstance(value, str) else _held(value)
 
 
 def _counted(value):
@@ -137,20 +154,34 @@ class Schema:
 
 
 class Batch:
-    """A batch that is gathered: events of schemas, whose texts and stacks are pooled once each. All schemas of a name
-    are alike in one batch (`takes`)."""
+    """A batch that is gathered: events of schemas, whose texts and stacks are pooled once each. Schemas that are alike
+    are one in it, and there is one of each name (`takes`)."""
 
     def __init__(self):
         self.clear()
 
     def clear(self):
         """No records."""
-        self._bytes, self._schemas, self._named, self._texts, self._stacks = bytearray(), {}, {}, {}, {}
-        self.events = 0
+        self._bytes, self._numbers, self._seen, self._named = bytearray(), {}, {}, set()
+        self._texts, self._stacks, self.events = {}, {}, 0
 
     def takes(self, schema):
-        """Whether no other schema of its name stands in the batch. Else the batch with it is refused (CONFLICT)."""
-        return id(schema) in self._schemas or self._named.get(schema.name, schema.record(0)) == schema.record(0)
+        """Whether no other schema of its name stands in the batch (else the batch with it is refused, CONFLICT), and it
+        is one of at most 65,280 (else IDS_USED_UP)."""
+        return (id(schema) in self._seen or schema.record(0) in self._numbers
+                or schema.name not in self._named and len(self._numbers) < MOST_SCHEMAS)
+
+    def _number_of(self, schema):
+        """The number of a schema, or of one that is alike; of a new one the record is put before it."""
+        if id(schema) not in self._seen:
+            shape, number = schema.record(0), len(self._numbers)
+            if shape not in self._numbers:
+                self._bytes += schema.record(number)
+                self._numbers[shape] = number
+                self._named.add(schema.name)
+            # (kept beside its number, so that no other schema gets its identity)
+            self._seen[id(schema)] = self._numbers[shape], schema
+        return self._seen[id(schema)][0]
 
     def add(self, schema, time, values):
         """An event of the schema at a time in nanoseconds. A value of `POOLED_STRING` is a text, one of
@@ -158,12 +189,7 @@ class Batch:
         if len(values) != len(schema.fields):
             raise ValueError(f"{len(values)} values for {len(schema.fields)} fields")
         spelled = b"".join(self._field(kind, value) for (_, kind), value in zip(schema.fields, values))
-        if id(schema) not in self._schemas:
-            # (kept beside its number, so that no other schema gets its identity)
-            self._schemas[id(schema)] = (len(self._schemas), schema)
-            self._named.setdefault(schema.name, schema.record(0))
-            self._bytes += schema.record(self._schemas[id(schema)][0])
-        number = self._schemas[id(schema)][0]
+        number = self._number_of(schema)
         self._bytes += b"\x02" + _number(number, 2) + _number(time, 8) + _number(len(values), 2) + spelled
         self.events += 1
 
@@ -219,13 +245,14 @@ def spelled(kind, value):
 
 def record_batch(batch):
     """The trace of a batch of bytes, with a header of its own."""
+    batch = _held(batch)
     return _in_room(lambda room, size, report: _library.trace_record(batch, len(batch), room, size, report),
                     len(batch) + 64)[0]
 
 
 def record(events):
-    """The trace of events, each a schema, a time in nanoseconds, and values. Before a second schema of a name, one
-    trace ends and another begins: readers take them for one."""
+    """The trace of events, each a schema, a time in nanoseconds, and values. Before a second schema of a name,
+    and where a trace has no wire id left, one trace ends and another begins: readers take them for one."""
     batch, traces = Batch(), []
     for schema, time, values in events:
         if not batch.takes(schema):
@@ -237,7 +264,7 @@ def record(events):
 
 def check(trace):
     """How many events a trace holds, which reads whole. `TraceError` where it does not, with `length` and `place`."""
-    report = _Report()
+    trace, report = _held(trace), _Report()
     code = _library.trace_check(trace, len(trace), ctypes.byref(report))
     if code != DONE:
         raise TraceError(code, report.length, report.place, report.detail)
@@ -251,6 +278,7 @@ def dump(trace, resolve=False):
 
 def dump_with_status(trace, resolve=False):
     """The same as bytes, with the status that `tracedump` ends with."""
+    trace = _held(trace)
     return _in_room(lambda room, size, report: _library.trace_dump(trace, len(trace), resolve, room, size, report),
                     16 * len(trace) + 256)
 
@@ -398,6 +426,11 @@ class ReadBatch:
 def read_batch(trace, state=b"", most=1000, place=0):
     """What comes next in a trace, with at most so many events: of the whole trace with no state, and then of what is
     left of it, from a place on, with the state that was handed out."""
+    trace, state = _held(trace), _held(state)
+    if not 0 <= place <= len(trace):
+        raise ValueError(f"{place} is no place of {len(trace)} bytes")
+    if not 0 <= most < 2**64:
+        raise ValueError(f"{most} is no count of events")
     begin = ctypes.cast(trace, ctypes.c_void_p).value + place
     guess = 1024 + 2 * len(state) + 64 * min(most, 1000)
     code, report, room = _called(lambda room, size, report: _library.trace_read(
@@ -408,15 +441,20 @@ def read_batch(trace, state=b"", most=1000, place=0):
 
 
 def read(trace, most=1000):
-    """The events of a trace, one by one, texts and stacks in place of the ids of the pools; at most so many are held at
-    once. Where the trace does not read whole, the events before that place, and then `TraceError`."""
-    place, state = 0, b""
+    """The events of a trace, one by one, texts and stacks in place of the ids of the pools. So many are read at once,
+    or more where the schemas and pools before them are large: each batch tells these again. Where the trace does not
+    read whole, the events before that place, and then `TraceError`."""
+    if most < 1:
+        raise ValueError(f"{most} events at once are none")
+    trace, place, state = _held(trace), 0, b""
     while True:
-        found = read_batch(trace, state, most, place)
+        try:
+            found = read_batch(trace, state, max(most, len(state) // 32), place)
+        except TraceError as error:
+            raise error.moved(place) from None
         yield from _Bytes(found.batch).events()
         if found.stop:
-            stop = found.stop
-            raise TraceError(stop.code, place + stop.length, place + stop.place, stop.detail)
+            raise found.stop.moved(place)
         place, state = place + found.length, found.state
         if place == len(trace):
             return

@@ -9,6 +9,8 @@ import os
 import re
 import struct
 import unittest
+import unittest.mock
+from time import process_time
 
 import gotymbe
 from gotymbe import (BOOL, BYTES, F64, I64, LIST, MAP, POOLED_STACK, POOLED_STRING, STACK, STRING, STRING_MAP, U8, U16,
@@ -332,6 +334,52 @@ class Doors(unittest.TestCase):
         trace = record((Schema(f"S{n}", []), n, []) for n in range(300))
         self.assertEqual([(it.name, it.time) for it in gotymbe.read(trace)], [(f"S{n}", n) for n in range(300)])
 
+    def test_schemas_that_are_alike(self):
+        """They are one, whatever objects they are: so many that no number would be left."""
+        trace = record((Schema("A", [("n", VARINT)]), n, [n]) for n in range(65537))
+        self.assertEqual(trace, record([(Schema("A", [["n", VARINT]]), n, [n]) for n in range(65537)]))
+        self.assertEqual((check(trace), trace.count(b"TRC\0")), (65537, 1))
+        again = record((it.schema, it.time, it.row) for it in gotymbe.read(trace, 1))
+        self.assertEqual(again, trace)
+        one, each, schema = Batch(), Batch(), Schema("A", [("n", VARINT)])
+        for n in range(3):
+            one.add(schema, n, [n])
+            each.add(Schema("A", [("n", VARINT)]), n, [n])
+        self.assertEqual(one.bytes(), each.bytes())
+
+    def test_more_schemas_than_wire_ids(self):
+        """A schema for which a trace has no wire id left begins another: ids from 256 on are given to schemas."""
+        ids, batch = 65536 - 256, Batch()
+        schemas = [Schema(f"S{n}", []) for n in range(ids)]
+        for schema in schemas:
+            batch.add(schema, 1, [])
+        new = Schema("new", [])
+        self.assertEqual([batch.takes(it) for it in (schemas[7], Schema("S7", []), new)], [True, True, False])
+        self.assertEqual(check(record_batch(batch.bytes())), ids)
+        batch.add(new, 1, [])
+        with self.assertRaises(TraceError) as it:
+            record_batch(batch.bytes())
+        self.assertEqual((it.exception.code, it.exception.place), (36, 2 * ids))
+        trace = record([*((it, 1, []) for it in schemas), (schemas[7], 2, []), (new, 3, [])])
+        self.assertEqual((check(trace), trace.count(b"TRC\0")), (ids + 2, 2))
+        self.assertEqual([(it.name, it.time) for it in gotymbe.read(trace)][ids:], [("S7", 2), ("new", 3)])
+
+    def test_many_texts_in_time(self):
+        """What is known before a batch is told again by it: so many texts take time with their number, and not with
+        its square."""
+        count, real, known = 160_000, gotymbe.read_batch, []
+
+        def watched(trace, state, most, place):
+            known.append(len(state))
+            return real(trace, state, most, place)
+
+        schema = Schema("A", [("at", POOLED_STRING)])
+        trace, begun = record((schema, n, [str(n)]) for n in range(count)), process_time()
+        with unittest.mock.patch.object(gotymbe, "read_batch", watched):
+            self.assertEqual(sum(it.row == [str(it.time)] for it in gotymbe.read(trace)), count)
+        self.assertLess(process_time() - begun, 30)
+        self.assertLess(sum(known), 4 * len(trace))
+
     def test_cleared(self):
         batch, first, second = Batch(), Schema("A", [("a", U8)]), Schema("A", [])
         for _ in range(2):
@@ -353,6 +401,65 @@ class Doors(unittest.TestCase):
             found = it.exception
             self.assertEqual((found.code, found.length, found.place, found.detail),
                              (wanted.code, wanted.length, wanted.place, wanted.detail))
+
+    def test_an_error_in_a_later_batch(self):
+        """It tells the place where that batch began: before the annotations that are more than a record counts."""
+        trace, note = record([(Schema("A", []), 1, []), (Schema("A", []), 2, [])]), b"\0\0\x01\0k\0\0\0\0"
+        most, more = (b"\x06\x80\x02" + struct.pack("<H", count) + count * note for count in (65535, 1))
+        read = []
+        with self.assertRaises(TraceError) as it:
+            for event in gotymbe.read(trace + most + more + b"\x02\0\1\0\0\0"):
+                read.append(event.time)
+        before, error = len(trace + most), it.exception
+        self.assertEqual(read, [1, 2])
+        self.assertEqual((error.code, error.length, error.place, error.detail), (35, before, before, 0))
+
+    def test_details_of_errors(self):
+        """What an error speaks of: the wire id 257, which has no schema, and a byte 9, with which no frame begins. And
+        its text."""
+        whole = record([(Schema("A", []), 1, [])])
+        for rest, code, detail, text in ((b"\2\1\1\0\0\0", 49, 257, "a wire id has no schema"),
+                                         (b"\x09", 56, 9, "no frame stands there")):
+            for reads in (check, lambda trace: list(gotymbe.read(trace))):
+                with self.assertRaises(TraceError) as it:
+                    reads(whole + rest)
+                error = it.exception
+                self.assertEqual((error.code, error.length, error.detail), (code, len(whole), detail))
+                self.assertEqual(str(error), f"{text} (code {code}, place {error.place}, detail {detail})")
+        self.assertEqual(str(TraceError(34, 0, 3, 7)), "a value does not fit its type (code 34, place 3, detail 7)")
+        self.assertEqual(str(TraceError(99, 5, 8, 9)), "99 (code 99, place 8, detail 9)")
+
+    def test_places_and_counts(self):
+        """Places past a trace, and counts that are none."""
+        trace = record([(Schema("A", []), 1, [])])
+        for most, place in ((1, len(trace) + 1), (1, 10**12), (1, -1), (2**64, 0), (-1, 0)):
+            with self.assertRaises(ValueError):
+                gotymbe.read_batch(trace, b"", most, place)
+        for most in (0, -1, 2**64):
+            with self.assertRaises(ValueError):
+                list(gotymbe.read(trace, most))
+        found = gotymbe.read_batch(trace, b"", 0)
+        self.assertEqual((found.events, found.stop), (0, None))
+        last = gotymbe.read_batch(trace, gotymbe.read_batch(trace).state, 1, len(trace))
+        self.assertEqual((last.events, last.length, last.stop), (0, 0, None))
+
+    def test_what_holds_bytes(self):
+        """Traces, batches and states may be of any type that holds bytes, and of no other."""
+        batch = Batch()
+        batch.add(Schema("A", [("n", VARINT)]), 1, [7])
+        batch.add(Schema("A", [("n", VARINT)]), 2, [8])
+        trace = record_batch(batch.bytes())
+        for made in (bytearray, memoryview, lambda raw: memoryview(b"x" + raw)[1:]):
+            self.assertEqual(record_batch(made(batch.bytes())), trace)
+            self.assertEqual((check(made(trace)), dump(made(trace))), (2, dump(trace)))
+            self.assertEqual([(it.time, it.row) for it in gotymbe.read(made(trace), 1)], [(1, [7]), (2, [8])])
+            first = gotymbe.read_batch(made(trace), made(b""), 1)
+            last = gotymbe.read_batch(made(trace), made(first.state), 1, first.length)
+            self.assertEqual((last.events, first.length + last.length), (1, len(trace)))
+        for call in (record_batch, check, dump, gotymbe.read_batch, lambda it: list(gotymbe.read(it))):
+            for other in ("TRC", 5, None):
+                with self.assertRaises(TypeError):
+                    call(other)
 
     def test_nothing_to_read(self):
         for state, code in ((b"", 58), (b"none", 60), (record([])[:4], 60), (record([(Schema("A", []), 1, [])]), 60)):

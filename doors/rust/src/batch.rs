@@ -28,6 +28,9 @@ pub enum FieldType {
 
 const OPTIONAL: u8 = 0x80;
 
+// How many schemas a batch has at most: as many wire ids does an encoder give to them.
+const MOST_SCHEMAS: usize = 65_280;
+
 /// A schema: a name, fields in the order in which events hold them, and annotations of the fields.
 #[derive(Clone, Debug, PartialEq, Eq, Hash)]
 pub struct Schema {
@@ -183,10 +186,12 @@ impl Batch {
         self.events = 0;
     }
 
-    /// Whether no other schema of its name stands in the batch. Else the batch with it is refused
-    /// ([`Cause::Conflict`](crate::Cause::Conflict)).
+    /// Whether no other schema of its name stands in the batch (else the batch with it is refused,
+    /// [`Cause::Conflict`](crate::Cause::Conflict)), and it is one of at most 65,280 (else
+    /// [`Cause::IdsUsedUp`](crate::Cause::IdsUsedUp)).
     pub fn takes(&self, schema: &Schema) -> bool {
-        self.schemas.contains_key(schema) || !self.names.contains(schema.name())
+        self.schemas.contains_key(schema)
+            || !self.names.contains(schema.name()) && self.schemas.len() < MOST_SCHEMAS
     }
 
     /// Puts an event of the schema in, at a time in nanoseconds. Whether the values fit is told when the batch is
@@ -258,7 +263,8 @@ impl Batch {
 }
 
 /// A recorder over any writer: it gathers events, and sends each full batch as a trace of its own. What it wrote is one
-/// trace after another, which readers take for one. A second schema of a name begins another batch.
+/// trace after another, which readers take for one. A second schema of a name begins another batch, and so does a
+/// schema for which a trace has no wire id left. Where nothing is recorded, nothing is written, not even a header.
 ///
 /// Events that were gathered and not sent are lost where the recorder is dropped: call [`Recorder::finish`]. Where the
 /// writer fails, the last trace may be cut, and a reader would take what stands after it for its rest. So nothing more
@@ -292,7 +298,7 @@ impl<W: Write> Recorder<W> {
         let number = match self.batch.schemas.get(schema) {
             Some(number) => *number,
             None => {
-                if self.batch.names.contains(schema.name()) {
+                if !self.batch.takes(schema) {
                     self.send()?;
                 }
                 self.batch.define(schema)

@@ -101,6 +101,18 @@ pub enum Error {
     Write(std::io::Error),
 }
 
+impl Error {
+    // The same, of a trace that begins so many bytes before.
+    pub(crate) fn moved(self, begin: usize) -> Error {
+        match self {
+            Error::Trace { cause, length, place, detail } => {
+                Error::Trace { cause, length: begin + length, place: begin + place, detail }
+            }
+            other => other,
+        }
+    }
+}
+
 impl fmt::Display for Error {
     fn fmt(&self, f: &mut fmt::Formatter<'_>) -> fmt::Result {
         match self {

@@ -59,10 +59,16 @@ impl Event {
     }
 }
 
-// How many events a batch has at most.
+// How many events a batch has at most, where little is known before it.
 const MOST: u64 = 1_000;
 
-/// The events of a trace, in order. They are read a batch at a time.
+// How many of them more: each batch tells again what is known, which costs little beside so many events.
+fn most_after(state: &[u8]) -> u64 {
+    MOST.max(state.len() as u64 / 32)
+}
+
+/// The events of a trace, in order. They are read a batch at a time: about a thousand, or more where the schemas and
+/// pools before them are large.
 #[derive(Debug)]
 pub struct Events<'a> {
     trace: &'a [u8],
@@ -90,14 +96,14 @@ impl Events<'_> {
         if self.ended {
             return false;
         }
-        match read_batch(&self.read.state, &self.trace[self.place..], MOST) {
+        match read_batch(&self.read.state, &self.trace[self.place..], most_after(&self.read.state)) {
             Ok(read) => {
                 self.put(read);
                 true
             }
             Err(error) => {
                 self.ended = true;
-                self.end = Some(error);
+                self.end = Some(error.moved(self.place));
                 false
             }
         }
@@ -107,11 +113,7 @@ impl Events<'_> {
         let begin = self.place;
         self.place += read.length;
         self.ended = self.place == self.trace.len() || read.stop.is_some();
-        if let Some(Error::Trace { length, place, .. }) = &mut read.stop {
-            *length += begin;
-            *place += begin;
-        }
-        self.end = read.stop.take();
+        self.end = read.stop.take().map(|error| error.moved(begin));
         self.read = read;
         self.at = 0;
         self.known = Known::default();

@@ -159,6 +159,56 @@ fn where_a_trace_is_torn() -> Result<(), Error> {
     Ok(())
 }
 
+// An error that comes after the first batch tells the place where that batch ended: before the annotations that are
+// more than a record counts.
+#[test]
+fn an_error_in_a_later_batch() -> Result<(), Error> {
+    let mut recorder = Recorder::new(Vec::new());
+    recorder.event(&Schema::new("A"), 1, &[])?;
+    recorder.event(&Schema::new("A"), 2, &[])?;
+    let mut trace = recorder.finish()?;
+    let mut before = 0;
+    for count in [65_535_u16, 1] {
+        before = trace.len();
+        trace.extend_from_slice(&[6, 0x80, 2]);
+        trace.extend_from_slice(&count.to_le_bytes());
+        trace.extend_from_slice(&b"\0\0\x01\0k\0\0\0\0".repeat(count.into()));
+    }
+    trace.extend_from_slice(&[2, 0, 1, 0, 0, 0]);
+    let mut read = events(&trace)?;
+    assert_eq!(read.by_ref().map(|event| event.time).collect::<Vec<_>>(), [1, 2]);
+    match read.stop() {
+        Some(Error::Trace { cause: Cause::TooLong, length, place, detail: 0 }) => {
+            assert_eq!((*length, *place), (before, before));
+        }
+        other => panic!("{other:?}"),
+    }
+    assert!(read.next().is_none() && read.stop().is_some());
+    Ok(())
+}
+
+// What an error speaks of: the wire id 257, which has no schema, and a byte 9, with which no frame begins.
+#[test]
+fn details_of_errors() -> Result<(), Error> {
+    let mut recorder = Recorder::new(Vec::new());
+    recorder.event(&Schema::new("A"), 1, &[])?;
+    let whole = recorder.finish()?;
+    for (rest, cause, detail) in [(&[2, 1, 1, 0, 0, 0][..], Cause::UnknownType, 257), (&[9], Cause::NoFrame, 9)] {
+        let trace = [&whole, rest].concat();
+        let mut read = events(&trace)?;
+        assert_eq!(read.by_ref().count(), 1);
+        for error in [&check(&trace).unwrap_err(), read.stop().expect("a cause")] {
+            match error {
+                Error::Trace { cause: told, length, detail: about, .. } => {
+                    assert_eq!((*told, *length, *about), (cause, whole.len(), detail));
+                }
+                other => panic!("{other:?}"),
+            }
+        }
+    }
+    Ok(())
+}
+
 // A writer that counts how often it was flushed.
 #[derive(Default)]
 struct Flushed {
@@ -397,8 +447,70 @@ fn refusals() {
         Err(Error::Trace { cause: Cause::NoState, .. }) => {}
         other => panic!("{other:?}"),
     }
-    let text = Error::Batch { cause: Cause::ValueCount, record: 3, detail: 0 }.to_string();
-    assert_eq!(text, "record 3: not as many values as fields");
+}
+
+#[test]
+fn errors_as_texts() {
+    for (error, text) in [
+        (Error::Batch { cause: Cause::ValueCount, record: 3, detail: 0 }, "record 3: not as many values as fields"),
+        (
+            Error::Batch { cause: Cause::Misfit, record: 3, detail: 7 },
+            "record 3: the value of field 7 does not fit its type",
+        ),
+        (
+            Error::Trace { cause: Cause::NoFrame, length: 5, place: 8, detail: 9 },
+            "stops at byte 8: no frame stands there",
+        ),
+        (Error::from(std::io::Error::new(std::io::ErrorKind::Other, "no room")), "the writer failed: no room"),
+    ] {
+        assert_eq!(error.to_string(), text);
+    }
+}
+
+// A schema for which a trace has no wire id left begins another: ids from 256 on are given to schemas.
+#[test]
+fn more_schemas_than_wire_ids() -> Result<(), Error> {
+    let (most, ids) = (usize::MAX, 65_536 - 256);
+    let mut recorder = Recorder::with_batches(Vec::new(), most);
+    let mut batch = Batch::new();
+    for n in 0..ids {
+        let schema = Schema::new(&n.to_string());
+        recorder.event(&schema, 1, &[])?;
+        batch.event(&schema, 1, &[]);
+    }
+    let (known, new) = (Schema::new("7"), Schema::new("new"));
+    assert_eq!((batch.takes(&known), batch.takes(&new)), (true, false));
+    assert_eq!(check(&record_batch(batch.as_bytes())?)?, ids);
+    batch.event(&new, 1, &[]);
+    match record_batch(batch.as_bytes()) {
+        Err(Error::Batch { cause: Cause::IdsUsedUp, record, .. }) => assert_eq!(record as u64, 2 * ids),
+        other => panic!("{other:?}"),
+    }
+    recorder.event(&known, 2, &[])?;
+    recorder.event(&new, 3, &[])?;
+    let trace = recorder.finish()?;
+    assert_eq!(check(&trace)?, ids + 2);
+    assert_eq!(trace.windows(4).filter(|it| it == b"TRC\0").count(), 2);
+    let last: Vec<_> = events(&trace)?.skip(ids as usize).map(|event| (event.name().to_owned(), event.time)).collect();
+    assert_eq!(last, [("7".to_owned(), 2), ("new".to_owned(), 3)]);
+    Ok(())
+}
+
+// What is known before a batch is told again by it: so many texts take time with their number, and not with its square
+// (which is a minute).
+#[test]
+fn many_texts_in_time() -> Result<(), Error> {
+    let one = Schema::new("One").field("it", FieldType::PooledString);
+    let mut batch = Batch::new();
+    for n in 0..160_000 {
+        batch.event(&one, n, &[Value::Pooled(&n.to_string())]);
+    }
+    let trace = record_batch(batch.as_bytes())?;
+    let begun = std::time::Instant::now();
+    let times = events(&trace)?.map(|event| (event.time, event.values));
+    assert!(times.eq((0..160_000).map(|n| (n, vec![ReadValue::Text(n.to_string())]))));
+    assert!(begun.elapsed().as_secs() < 15, "{:?}", begun.elapsed());
+    Ok(())
 }
 
 // The recordings (docs/RECORDINGS.md): what each holds under its titles.
