@@ -21,6 +21,7 @@ pub mod raw;
 pub mod reading;
 pub mod resolving;
 pub mod resuming;
+pub mod reusing;
 pub mod rows;
 pub mod runs;
 pub mod samples;

@@ -134,7 +134,8 @@ fn numbers(time: u64) -> Numbers {
     }
 }
 
-fn wide_event(time: u64) -> Wide {
+/// An event of twenty numbers.
+pub fn wide_event(time: u64) -> Wide {
     Wide {
         time,
         v0: 0,

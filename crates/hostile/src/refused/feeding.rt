@@ -101,12 +101,12 @@ impl Feeding<'_, '_> {
 }
 
 /// `FeedDecoder::push`.
-fn push(decoder: &mut FeedDecoder, piece: &[u8]) -> Result<(), DecodeError> {
+pub fn push(decoder: &mut FeedDecoder, piece: &[u8]) -> Result<(), DecodeError> {
     decoder.push(piece)
 }
 
 /// `FeedDecoder::next_frame`.
-fn next_fed(decoder: &mut FeedDecoder) -> Result<Option<DecodedFrame>, DecodeError> {
+pub fn next_fed(decoder: &mut FeedDecoder) -> Result<Option<DecodedFrame>, DecodeError> {
     decoder.next_frame()
 }
 

@@ -20,6 +20,7 @@ use crate::refused::raw::sweep_raw;
 use crate::refused::reading::Reading;
 use crate::refused::resolving::{sweep_fed, sweep_shown};
 use crate::refused::resuming::after_trace;
+use crate::refused::reusing::sweep_reusing;
 use crate::refused::rows::sweep_row;
 use crate::refused::runs::{READERS, Reader, Reference, reference_of};
 use crate::refused::samples::{SAMPLES, calls_of, nested, with_pools};
@@ -113,6 +114,7 @@ impl Tallies {
         sweep_raw(alloc, &mut self.list);
         sweep_all_frames(alloc, &mut self.all_frames)?;
         sweep_free_values(alloc, &mut self.free);
+        sweep_reusing(alloc, &mut self.free)?;
         self.try_nested(alloc)
     }
 

@@ -159,7 +159,9 @@ fn two_wide(rt: &impl Abort, alloc: Global, count: usize) -> Vec<u8> {
 fn wide_events(rt: HostRuntime) {
     for count in COUNTS {
         let bytes = two_wide(&rt, rt.alloc(), count);
-        assert!(rt; gives_as_many(&rt, rt.alloc(), bytes.as_slice(), 10_000));
+        for length in [10_000, 100_000usize] {
+            assert!(rt; gives_as_many(&rt, rt.alloc(), bytes.as_slice(), length));
+        }
     }
 }
 
