@@ -31,19 +31,19 @@ fn convert(rt: &(impl AllocGlobal + Input + Print)) -> Result<()> {
     write_converted(rt, decoder)
 }
 
-/// Writes the events that a decoder has left, converted, to standard output.
+/// Writes what is left of a trace, converted, to standard output.
 fn write_converted(rt: &(impl AllocGlobal + Print), mut decoder: Decoder<'_>) -> Result<()> {
     let encoder = Encoder::new_to(rt.alloc(), Plain(io::writer(rt)))?;
     let mut converter = Converter::new(rt.alloc(), &RULES, encoder);
     if let Err(error) = decoder.try_for_each_event(&mut converter) {
-        return Err(told(error));
+        return Err(run_error(error));
     }
     converter.into_encoder().flush()?;
     Ok(())
 }
 
-/// What is told of an event that is not converted, and of bytes where no frame stands.
-fn told(error: TryForEachError<ConvertError>) -> Error {
+/// Why a run ended early: an event is not converted, or no frame stands at a place.
+fn run_error(error: TryForEachError<ConvertError>) -> Error {
     match error {
         TryForEachError::User(error) => anyhow!("an event is not converted: {error}"),
         TryForEachError::Decode(error) => anyhow!("at {}: {}", error.pos, error.kind),
