@@ -242,6 +242,7 @@ int main(void) {
     expect(report.events == 4, "the events of both");
     for (size_t n = 5; n < length; n++) {
         uint32_t code = trace_check(both, n, &report);
+        expect(trace_was_read(code) && report.length >= 5, "a front is told");
         expect(code == TRACE_DONE ? report.length == n : report.length < n && report.place <= n, "a front");
     }
     expect(trace_check((const uint8_t *)"nothing", 7, &report) == TRACE_NO_HEADER, "no header");
